@@ -1,0 +1,11 @@
+//! The definitions that every layer shares: numbers, lists and finite maps alone, and nothing of the code.
+//!
+//! `specs/Stripes.antt` says how an object's bytes lie in the lists of chunks of its positions, and
+//! `specs/Objects.antt` what the objects are and what a command does to them.
+//!
+//! Headline: the chunks of the data positions, joined stripe by stripe, are the object (`data_lists_join_back`).
+#![tactic(auto)]
+
+mod laws;
+
+pub use laws::{data_lists_join_back, refusal_changes_nothing, three_bytes_in_three_lists};

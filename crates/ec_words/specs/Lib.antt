@@ -1,0 +1,4 @@
+pub mod Fields
+pub mod HexText
+pub mod Laws
+pub mod Names

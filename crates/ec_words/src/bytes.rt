@@ -1,0 +1,91 @@
+//! A list of bytes.
+ghost use Rattle.std.specs.Prelude.{◌≡◌, [], List, ℕ, IfOk, bytes_eq};
+ghost use Rattle.std.specs.Cmp.{partial_equiv_from_equiv};
+ghost use Rattle.std.specs.Cmp.Lexicographic.{nat_list_eq_equiv};
+
+use crate::NoMemory;
+use std::alloc::Global;
+use std::marker::Model;
+
+/// A list of bytes. A contract sees the list.
+#[derive(Debug, Drop)]
+pub struct Bytes {
+    list: Vec<u8>,
+}
+
+impl Model for Bytes {
+    ghost Value = { List ℕ };
+
+    ghost view = { λ b. b.list.items };
+}
+
+impl Bytes {
+    /// No bytes. It takes no memory yet.
+    pub fn new(alloc: Global) -> Bytes
+        ensures { result ≡ [] }
+    {
+        Bytes {
+            list: Vec::new(alloc),
+        }
+    }
+
+    /// The bytes of a `Vec`, which is taken over as it is.
+    pub fn of(list: Vec<u8>) -> Bytes
+        ensures { result ≡ list.items }
+    {
+        Bytes { list }
+    }
+
+    /// The `Vec` that holds the bytes.
+    pub fn into_vec(self) -> Vec<u8>
+        ensures { result.items ≡ self }
+    {
+        self.list
+    }
+
+    /// A copy of some bytes.
+    pub fn from_slice(alloc: Global, bytes: &[u8]) -> Result<Bytes, NoMemory>
+        ensures { IfOk result (λ copy. copy ≡ bytes.now) }
+    {
+        let list = Vec::from_slice(alloc, bytes)?;
+        Ok(Bytes { list })
+    }
+
+    /// The bytes.
+    pub fn as_slice(&self) -> &[u8]
+        ensures { result.now ≡ self.now }
+    {
+        self.list.as_slice()
+    }
+}
+
+impl PartialEq for Bytes {
+    ghost eq = { λ a b. bytes_eq a b };
+
+    ghost laws = { partial_equiv_from_equiv nat_list_eq_equiv };
+
+    fn eq(&self, other: &Bytes) -> bool {
+        self.list.as_slice() == other.list.as_slice()
+    }
+}
+
+impl Eq for Bytes {
+    ghost laws = { nat_list_eq_equiv };
+}
+
+#[cfg(test)]
+mod tests {
+    use super::*;
+    use std::test::Fail;
+
+    #[test]
+    fn bytes_come_back(rt: HostRuntime) -> Result<(), Fail> {
+        let alloc = rt.alloc();
+        let copy = Bytes::from_slice(alloc, b"ab")?;
+        assert_eq!(rt; copy.as_slice(), b"ab".as_slice());
+        assert_eq!(rt; copy, Bytes::of(vec![in alloc; b'a', b'b']?));
+        assert_eq!(rt; Bytes::new(alloc).as_slice().len(), 0);
+        assert_eq!(rt; copy.into_vec().as_slice(), b"ab".as_slice());
+        Ok(())
+    }
+}

@@ -1,0 +1,23 @@
+//! The words that every layer shares: lists of bytes, names, hexadecimal texts and the fields of a line.
+//!
+//! Headline: a text is read as exactly its value (`Name::read`, `read_hex`, `field`).
+//!
+//! The line `full a 0102` has three fields, `a` is a name, and `0102` spells the bytes 1 and 2.
+#![tactic(auto)]
+
+mod bytes;
+mod fault;
+mod fields;
+mod hex_text;
+mod laws;
+mod limits;
+mod name;
+
+pub use bytes::Bytes;
+pub use fault::{NoMemory, WordFault};
+pub use fields::{field, field_count};
+pub use hex_text::read_hex;
+pub use laws::{
+    fields_are_between_spaces, hex_has_one_reading, hex_is_read_back, hex_text_spells_some_bytes,
+};
+pub use name::Name;

@@ -1,0 +1,7 @@
+mod GrammarLemmas
+pub mod LineLemmas
+mod MapLemmas
+mod RunLemmas
+mod StatusLemmas
+mod StoredLemmas
+mod WordLemmas

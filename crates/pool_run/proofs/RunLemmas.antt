@@ -1,0 +1,154 @@
+-- A script is answered line by line.
+use Rattle.std.proofs.Common.{◌≡◌, ◌⊎◌, ℕ, suc, ◌+◌, ◌<◌, ◌≤◌, min, Bool, true, false, cond, ◌&&◌, List, [], ◌∷◌, ◌++◌, length, map, take, drop, get_or, refl, sym, ap, subst, ◌∙◌, Option, Bor, append-nil, arith, inl, inr, drop-cons}
+use Rattle.std.specs.List.{list_all}
+use Rattle.std.specs.FinMap as finite
+use Rattle.std.specs.Io.KnownBytes.{Appends}
+use Rattle.std.proofs.lemmas.List.{take-append-drop, take-append-le, take_all, take_more, take_min, map-append, map_push}
+use Rattle.std.proofs.lemmas.List.Folds.{list_all-append}
+use Rattle.std.proofs.lemmas.Grind.{flat_map-append}
+use Rattle.std.proofs.Math.Seq.{take-append-add, take-length}
+use Rattle.std.proofs.Math.Bool.{and-true}
+use Rattle.ec_model.specs.Objects.{Objects, Command, Reply, apply_line, apply_lines, reply_to_line, replies_to_lines}
+use Rattle.rig_disk.specs.Said.{SaysFront}
+use Rattle.rig_disk.proofs.CallerLemmas.{Appends-none, Appends-more}
+use Rattle.pool_run.specs.Lines.{command_of, commands_of, kept_lines}
+use Rattle.pool_run.specs.Replies.{replies_to, replies_text, reply_text, is_done}
+use Rattle.pool_run.specs.Script.{IsRun}
+use Rattle.pool_run.specs.Texts.{OneOf}
+
+apply_lines-append : (objects : Objects) (xs ys : List (Option Command)) → apply_lines objects (xs ++ ys) ≡ apply_lines (apply_lines objects xs) ys
+apply_lines-append objects [] ys = refl
+apply_lines-append objects (x ∷ xs) ys = apply_lines-append (apply_line objects x) xs ys
+
+replies_to_lines-append : (objects : Objects) (xs ys : List (Option Command))
+    → replies_to_lines objects (xs ++ ys) ≡ replies_to_lines objects xs ++ replies_to_lines (apply_lines objects xs) ys
+replies_to_lines-append objects [] ys = refl
+replies_to_lines-append objects (x ∷ xs) ys = ap (λ rs. reply_to_line objects x ∷ rs) (replies_to_lines-append (apply_line objects x) xs ys)
+
+-- the replies to some lines from no objects
+abbrev replies_from_none : List (List ℕ) → List Reply
+replies_from_none lines = replies_to_lines finite.empty (commands_of lines)
+
+abbrev objects_after : List (List ℕ) → Objects
+objects_after lines = apply_lines finite.empty (commands_of lines)
+
+-- these lines are answered so far: what they left, whether each reply begins with `ok`, and what was said
+pub record Answered (lines : List (List ℕ)) (objects : Objects) (fine : Bool) (before now : Option (List ℕ)) : Type 0 where
+  pub left : objects ≡ objects_after lines
+  pub all_done : fine ≡ list_all is_done (replies_from_none lines)
+  pub said : Appends before now (replies_text (replies_from_none lines))
+
+pub nothing_answered : (objects : Objects) (now : Option (List ℕ)) → objects ≡ finite.empty → Answered [] objects true now now
+nothing_answered objects now e = record { left = e; all_done = refl; said = Appends-none now }
+
+commands_of-push : (lines : List (List ℕ)) (x : List ℕ) → commands_of (lines ++ x ∷ []) ≡ commands_of lines ++ command_of x ∷ []
+commands_of-push lines x = map-append command_of lines (x ∷ [])
+
+objects_after-push : (lines : List (List ℕ)) (x : List ℕ) → objects_after (lines ++ x ∷ []) ≡ apply_line (objects_after lines) (command_of x)
+objects_after-push lines x = ap (apply_lines finite.empty) (commands_of-push lines x) ∙ apply_lines-append finite.empty (commands_of lines) (command_of x ∷ [])
+
+replies_from_none-append : (lines more : List (List ℕ)) (objects : Objects) → objects ≡ objects_after lines
+    → replies_from_none (lines ++ more) ≡ replies_from_none lines ++ replies_to_lines objects (commands_of more)
+replies_from_none-append lines more objects e =
+    ap (replies_to_lines finite.empty) (map-append command_of lines more)
+    ∙ replies_to_lines-append finite.empty (commands_of lines) (commands_of more)
+    ∙ ap (λ o. replies_from_none lines ++ replies_to_lines o (commands_of more)) (sym e)
+
+replies_text-push : (rs : List Reply) (r : Reply) → replies_text (rs ++ r ∷ []) ≡ replies_text rs ++ reply_text r
+replies_text-push rs r = flat_map-append reply_text rs (r ∷ []) ∙ ap (λ t. replies_text rs ++ t) (append-nil (reply_text r))
+
+list_all-push : (rs : List Reply) (r : Reply) → list_all is_done (rs ++ r ∷ []) ≡ (list_all is_done rs && is_done r)
+list_all-push rs r = list_all-append is_done rs (r ∷ []) ∙ ap (λ b. list_all is_done rs && b) (and-true (is_done r))
+
+pub one_answered : (lines : List (List ℕ)) (x : List ℕ) (objects next : Objects) (fine one both : Bool) (before now new : Option (List ℕ))
+    → Answered lines objects fine before now → next ≡ apply_line objects (command_of x) → one ≡ is_done (reply_to_line objects (command_of x)) → both ≡ (fine && one)
+    → Appends now new (reply_text (reply_to_line objects (command_of x))) → Answered (lines ++ x ∷ []) next both before new
+one_answered lines x objects next fine one both before now new a leaves ok and says =
+    let push : replies_from_none (lines ++ x ∷ []) ≡ replies_from_none lines ++ reply_to_line objects (command_of x) ∷ [] =
+    replies_from_none-append lines (x ∷ []) objects a.left
+    in
+    record {
+      left = leaves ∙ ap (λ o. apply_line o (command_of x)) a.left ∙ sym (objects_after-push lines x);
+      all_done = and ∙ (λ i. a.all_done i && ok i) ∙ sym (ap (list_all is_done) push ∙ list_all-push (replies_from_none lines) (reply_to_line objects (command_of x)));
+      said = subst (Appends before new) (sym (ap replies_text push ∙ replies_text-push (replies_from_none lines) (reply_to_line objects (command_of x)))) (Appends-more _ _ _ _ _ a.said says);
+    }
+
+front_of : (n : ℕ) (xs ys zs : List ℕ) → take (length xs + min n (length ys)) (xs ++ (ys ++ zs)) ≡ xs ++ take n ys
+front_of n xs ys zs =
+    take-append-add xs (ys ++ zs) (min n (length ys))
+    ∙ ap (λ t. xs ++ t) (take-append-le (min n (length ys)) ys zs (omega arith) ∙ take_min n ys)
+
+-- a line whose reply was said in part
+pub part_answered : (lines more : List (List ℕ)) (x : List ℕ) (objects : Objects) (fine : Bool) (before now new : Option (List ℕ)) (script : List ℕ)
+    → Answered lines objects fine before now → kept_lines script ≡ lines ++ x ∷ more
+    → SaysFront now new (reply_text (reply_to_line objects (command_of x))) → SaysFront before new (replies_text (replies_to script))
+part_answered lines more x objects fine before now new script a is part =
+    let r = reply_to_line objects (command_of x) in
+    let rest = replies_text (replies_to_lines (apply_line objects (command_of x)) (commands_of more)) in
+    let whole : replies_text (replies_to script) ≡ replies_text (replies_from_none lines) ++ (reply_text r ++ rest) =
+    ap (λ ls. replies_text (replies_from_none ls)) is
+    ∙ ap replies_text (replies_from_none-append lines (x ∷ more) objects a.left)
+    ∙ flat_map-append reply_text _ _
+    in (
+      length (replies_text (replies_from_none lines)) + min part.0 (length (reply_text r)),
+      subst (Appends before new) (sym (ap (take _) whole ∙ front_of part.0 _ _ rest)) (Appends-more _ _ _ _ _ a.said part.1),
+    )
+
+no_end : (s : ℕ) → 1 < s → OneOf s (0 ∷ 1 ∷ []) → ⊥
+no_end s h (inl e) = omega arith
+no_end s h (inr (inl e)) = omega arith
+no_end s h (inr (inr e)) = e
+
+-- the run stopped within a line
+pub stopped : (script : List ℕ) (status : ℕ) (before now : Option (List ℕ)) → 1 < status → SaysFront before now (replies_text (replies_to script)) → IsRun script status before now
+stopped script status before now h f = record {
+  front = f;
+  whole = λ o. absurd (no_end status h o);
+  all_done = λ e. absurd (omega arith);
+  some_refused = λ e. absurd (omega arith);
+}
+
+done_of : (fine : Bool) (s : ℕ) → s ≡ cond fine 0 1 → s ≡ 0 → fine ≡ true
+done_of true s e z = refl
+done_of false s e z = absurd (omega arith)
+
+refused_of : (fine : Bool) (s : ℕ) → s ≡ cond fine 0 1 → s ≡ 1 → fine ≡ false
+refused_of true s e z = absurd (omega arith)
+refused_of false s e z = refl
+
+-- all lines are answered
+pub whole_answered : (lines : List (List ℕ)) (script : List ℕ) (objects : Objects) (fine : Bool) (before now : Option (List ℕ)) (status : ℕ)
+    → Answered lines objects fine before now → lines ≡ kept_lines script → status ≡ cond fine 0 1 → IsRun script status before now
+whole_answered lines script objects fine before now status a is e =
+    let said : Appends before now (replies_text (replies_to script)) = subst (λ (ls : List (List ℕ)). Appends before now (replies_text (replies_from_none ls))) is a.said in
+    let done : fine ≡ list_all is_done (replies_to script) = a.all_done ∙ ap (λ ls. list_all is_done (replies_from_none ls)) is in
+    record {
+      front = (length (replies_text (replies_to script)), subst (Appends before now) (sym (take-length (replies_text (replies_to script)))) said);
+      whole = λ _. said;
+      all_done = λ z. sym done ∙ done_of fine status e z;
+      some_refused = λ z. sym done ∙ refused_of fine status e z;
+    }
+
+pub both_done : (fine one both : Bool) → (fine ≡ true) × (both ≡ one) ⊎ (fine ≡ false) × (both ≡ false) → both ≡ (fine && one)
+both_done fine one both (inl p) = p.1 ∙ ap (λ b. b && one) (sym p.0)
+both_done fine one both (inr p) = p.1 ∙ ap (λ b. b && one) (sym p.0)
+
+-- what stands behind references
+abbrev pub shown : List (Bor (List ℕ)) → List (List ℕ)
+shown items = map (λ x. x.now) items
+
+pub shown_more : (items : List (Bor (List ℕ))) (i : ℕ) (d : Bor (List ℕ)) → i < length items → shown (take (i + 1) items) ≡ shown (take i items) ++ (get_or items i d).now ∷ []
+shown_more items i d h = ap shown (take_more items i d h) ∙ map_push (λ (x : Bor (List ℕ)). x.now) (take i items) (get_or items i d)
+
+pub shown_at : (items : List (Bor (List ℕ))) (i : ℕ) (d : Bor (List ℕ)) → i < length items
+    → shown items ≡ shown (take i items) ++ (get_or items i d).now ∷ shown (drop (suc i) items)
+shown_at items i d h =
+    ap shown (sym (take-append-drop i items) ∙ ap (λ t. take i items ++ t) (drop-cons items i d h))
+    ∙ map-append (λ (x : Bor (List ℕ)). x.now) (take i items) (get_or items i d ∷ drop (suc i) items)
+
+pub shown_all : (items : List (Bor (List ℕ))) (i : ℕ) → length items ≤ i → shown (take i items) ≡ shown items
+shown_all items i h = ap shown (take_all i items h)
+
+pub status_of_done : (fine : Bool) (s : ℕ) → (fine ≡ true) × (s ≡ 0) ⊎ (fine ≡ false) × (s ≡ 1) → s ≡ cond fine 0 1
+status_of_done fine s (inl p) = p.1 ∙ ap (λ b. cond b 0 1) (sym p.0)
+status_of_done fine s (inr p) = p.1 ∙ ap (λ b. cond b 0 1) (sym p.0)

@@ -1,0 +1,9 @@
+pub mod Grammar
+pub mod Headline
+pub mod Laws
+pub mod Lines
+pub mod Replies
+pub mod Script
+pub mod Stored
+pub mod Texts
+pub mod Words

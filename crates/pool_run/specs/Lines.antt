@@ -1,0 +1,51 @@
+-- The lines of a script, and the command that each one gives. Source: this project.
+use Rattle.std.specs.Prelude.{ℕ, Bool, false, not, ◌==◌, if◌then◌else◌, List, [], ◌∷◌, length, filter, map, codes, bytes_eq, Option, Some, None, Result, Ok, Err}
+use Rattle.std.specs.List.{slice_split}
+use Rattle.hex.specs.Hex.{decode_of}
+use Rattle.hex.specs.declared.error.FromHexError.{FromHexError}
+use Rattle.ec_model.specs.Objects.{Command, Full, Get}
+use Rattle.ec_words.specs.Fields.{fields}
+use Rattle.ec_words.specs.Names.{is_name}
+use Rattle.pool_run.specs.declared.line.Line.{Line}
+use Rattle.pool_run.specs.declared.line.Line.TheVariants.{Full as FullLine, Get as GetLine}
+
+-- an empty line, and one that begins with `#`, is skipped
+abbrev pub is_kept : List ℕ → Bool
+is_kept [] = false
+is_kept (first ∷ rest) = not (first == 35)
+
+-- the lines that count, without their line feeds; a last one needs none
+abbrev pub kept_lines : List ℕ → List (List ℕ)
+kept_lines script = filter is_kept (slice_split (λ b. b == 10) script)
+
+-- `full`, where the digits spell bytes
+abbrev pub full_of : List ℕ → Result (List ℕ) FromHexError → Option Command
+full_of name (Ok bytes) = Some (Full name bytes)
+full_of name (Err fault) = None
+
+-- the command that the fields of a line give
+abbrev pub command_of_fields : List (List ℕ) → Option Command
+command_of_fields (word ∷ name ∷ []) =
+    if not (is_name name) then None
+    else if bytes_eq word (codes "get") then Some (Get name)
+    else if bytes_eq word (codes "full") then Some (Full name [])
+    else None
+command_of_fields (word ∷ name ∷ digits ∷ []) =
+    if not (bytes_eq word (codes "full")) then None
+    else if not (is_name name) then None
+    else if length digits == 0 then None
+    else full_of name (decode_of digits)
+command_of_fields others = None
+
+-- the command that a line gives, if it has one of the forms
+abbrev pub command_of : List ℕ → Option Command
+command_of text = command_of_fields (fields text)
+
+-- those of a script's lines
+abbrev pub commands_of : List (List ℕ) → List (Option Command)
+commands_of lines = map command_of lines
+
+-- the command that the code's type stands for
+abbrev pub command_of_line : Line → Command
+command_of_line (FullLine name bytes) = Full name bytes
+command_of_line (GetLine name) = Get name

@@ -1,0 +1,67 @@
+//! The replies to the lines of a script.
+ghost use Rattle.std.specs.Prelude.{◌≡◌, ◌++◌, IfOk, OnOk};
+ghost use Rattle.hex.specs.Hex.{encode_lower};
+ghost use Rattle.ec_model.specs.Objects.{Done};
+ghost use Rattle.ec_words.specs.Fields.{optional_field};
+ghost use Rattle.pool_run.specs.Replies.{shown, reply_text, is_done};
+
+use ec_words::{Bytes, NoMemory};
+use std::alloc::Global;
+
+/// The answer to a line.
+#[derive(Debug, PartialEq, Eq, Drop)]
+pub enum Reply {
+    /// `ok`, with the text of its second field, which is empty where there is none.
+    Done(Bytes),
+    /// `absent`: there is no such object.
+    Absent,
+    /// `bad`: the line has none of the forms.
+    Bad,
+}
+
+impl Reply {
+    /// `ok` with these bytes in hexadecimal digits, in lower case.
+    pub fn of_bytes(alloc: Global, bytes: &[u8]) -> Result<Reply, NoMemory>
+        ensures { IfOk result (λ reply. shown reply ≡ Done (encode_lower bytes.now)) }
+    {
+        let digits = hex::encode(alloc, bytes)?;
+        Ok(Reply::Done(Bytes::from_slice(alloc, digits.as_bytes())?))
+    }
+
+    /// Whether the reply begins with `ok`.
+    pub fn is_done(&self) -> bool
+        ensures { result ≡ is_done (shown self.now) }
+    {
+        match self {
+            Reply::Done(_) => true,
+            Reply::Absent | Reply::Bad => false,
+        }
+    }
+}
+
+/// The line of a reply, with its line feed.
+pub fn print_reply(alloc: Global, reply: &Reply) -> Result<Bytes, NoMemory>
+    ensures { IfOk result (λ text. text ≡ reply_text (shown reply.now)) }
+{
+    let mut list = Vec::new(alloc);
+    match reply {
+        Reply::Done(text) => {
+            list.extend_from_slice(b"ok")?;
+            push_field(&mut list, text.as_slice())?;
+        }
+        Reply::Absent => list.extend_from_slice(b"absent")?,
+        Reply::Bad => list.extend_from_slice(b"bad")?,
+    }
+    list.push(b'\n')?;
+    Ok(Bytes::of(list))
+}
+
+fn push_field(list: &mut Vec<u8>, text: &[u8]) -> Result<(), NoMemory>
+    ensures { OnOk result (list.new.items ≡ list.old.items ++ optional_field text.now) }
+{
+    if !text.is_empty() {
+        list.push(b' ')?;
+        list.extend_from_slice(text)?;
+    }
+    Ok(())
+}

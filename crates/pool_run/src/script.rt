@@ -1,0 +1,145 @@
+//! A script is read whole, and answered line by line.
+ghost use Rattle.std.specs.Prelude.{◌≡◌, ◌≢◌, ◌≤◌, ℕ, [], ◌∷◌, length, map, false, IfOk, OnOk, OnErr, Err};
+ghost use Rattle.std.specs.Io.KnownBytes.{Appends};
+ghost use Rattle.rig_disk.specs.Faults.{Rose};
+ghost use Rattle.rig_disk.specs.Said.{SaysFront};
+ghost use Rattle.pool_run.specs.Lines.{is_kept, kept_lines};
+ghost use Rattle.pool_run.specs.Replies.{shown, reply_of, objects_after, reply_text, is_done};
+ghost use Rattle.pool_run.specs.Script.{IsRun, ReadsAll, HadMore};
+ghost use Rattle.pool_run.specs.Texts.{OneOf, max_input};
+
+use crate::limits::MAX_INPUT;
+use crate::line::{LineFault, read_line};
+use crate::objects::Objects;
+use crate::program::Status;
+use crate::reply::{Reply, print_reply};
+use ec_words::NoMemory;
+use rig_disk::{Rig, Source, VOICE};
+use std::alloc::Global;
+
+/// The bytes that are taken from the input at once.
+const PIECE: usize = 4096;
+
+/// Why the input could not be read.
+#[derive(Clone, Copy, Debug, PartialEq, Eq)]
+pub enum InputFault {
+    TooLong,
+    Failed,
+    NoMemory,
+}
+
+/// Reads the input to its end, of at most 65,536 bytes.
+pub fn read_input<S: Source>(alloc: Global, source: &mut S) -> Result<Vec<u8>, InputFault>
+    ensures whole { IfOk result (λ input. ReadsAll (S.left source.old) (S.left source.new) input.items) }
+    ensures within { IfOk result (λ input. length input.items ≤ max_input) }
+    ensures quiet { OnOk result (S.faults source.new ≡ S.faults source.old) }
+    ensures too_long { result ≡ Err InputFault.TooLong → HadMore (S.left source.old) (S.left source.new) }
+    ensures failed { result ≡ Err InputFault.Failed → Rose (S.faults source.old) (S.faults source.new) }
+{
+    let mut input: Vec<u8> = Vec::new(alloc);
+    while input.len() <= MAX_INPUT {
+        let mut piece = [0u8; PIECE];
+        let Ok(count) = source.take(&mut piece) else {
+            return Err(InputFault::Failed);
+        };
+        if count == 0 {
+            return Ok(input);
+        }
+        if input.extend_from_slice(&piece[..count]).is_err() {
+            return Err(InputFault::NoMemory);
+        }
+    }
+    Err(InputFault::TooLong)
+}
+
+// Why a script was not answered to its end.
+#[derive(Clone, Copy, Debug, PartialEq, Eq)]
+enum Stop {
+    Voice,
+    NoMemory,
+}
+
+/// Answers each line of a script, from no objects.
+pub fn run_script<R: Rig>(alloc: Global, script: &[u8], rig: &mut R) -> Status
+    ensures statuses { OneOf result.0 (0 ∷ 1 ∷ 9 ∷ 13 ∷ []) }
+    ensures run { IsRun script.now result.0 (R.said rig.old) (R.said rig.new) }
+    ensures quiet { OneOf result.0 (0 ∷ 1 ∷ []) → R.faults rig.new VOICE ≡ R.faults rig.old VOICE }
+    ensures voice { result.0 ≡ 9 → Rose (R.faults rig.old VOICE) (R.faults rig.new VOICE) }
+    ensures slots { (slot : ℕ) → slot ≢ VOICE → R.faults rig.new slot ≡ R.faults rig.old slot }
+{
+    let Ok(lines) = kept_lines(alloc, script) else {
+        return Status(13);
+    };
+    let mut objects = Objects::new(alloc);
+    let mut all_done = true;
+    for line in &lines {
+        match run_line(alloc, line, &mut objects, rig) {
+            Ok(done) => all_done = all_done && done,
+            Err(Stop::Voice) => return Status(9),
+            Err(Stop::NoMemory) => return Status(13),
+        }
+    }
+    Status(if all_done { 0 } else { 1 })
+}
+
+// The lines that count, without their line feeds.
+fn kept_lines(alloc: Global, script: &[u8]) -> Result<Vec<&[u8]>, NoMemory>
+    ensures { IfOk result (λ lines. map (λ line. line.now) lines.items ≡ kept_lines script.now) }
+{
+    let lines = script
+        .split(|b| *b == b'\n')
+        .filter(|line| is_kept(line))
+        .collect(alloc)?;
+    Ok(lines)
+}
+
+fn is_kept(line: &[u8]) -> bool
+    ensures { result ≡ is_kept line.now }
+{
+    match line {
+        [] => false,
+        [first, ..] => *first != b'#',
+    }
+}
+
+// Answers one line, and says whether its reply begins with `ok`.
+fn run_line<R: Rig>(
+    alloc: Global,
+    text: &[u8],
+    objects: &mut Objects,
+    rig: &mut R,
+) -> Result<bool, Stop>
+    ensures done { IfOk result (λ done. done ≡ is_done (reply_of objects.old text.now)) }
+    ensures after { OnOk result (objects.new ≡ objects_after objects.old text.now) }
+    ensures said { OnOk result
+        (Appends (R.said rig.old) (R.said rig.new) (reply_text (reply_of objects.old text.now))) }
+    ensures quiet { OnOk result (R.faults rig.new VOICE ≡ R.faults rig.old VOICE) }
+    ensures front { OnErr result
+        (SaysFront (R.said rig.old) (R.said rig.new) (reply_text (reply_of objects.old text.now))) }
+    ensures voice { result ≡ Err Stop.Voice → Rose (R.faults rig.old VOICE) (R.faults rig.new VOICE) }
+    ensures slots { (slot : ℕ) → slot ≢ VOICE → R.faults rig.new slot ≡ R.faults rig.old slot }
+{
+    let Ok(reply) = answer(alloc, text, objects) else {
+        return Err(Stop::NoMemory);
+    };
+    let Ok(line) = print_reply(alloc, &reply) else {
+        return Err(Stop::NoMemory);
+    };
+    match rig.say(line.as_slice()) {
+        Ok(()) => Ok(reply.is_done()),
+        Err(_) => Err(Stop::Voice),
+    }
+}
+
+// The reply to one line, whose effect is done. After an `Err` nothing has changed.
+fn answer(alloc: Global, text: &[u8], objects: &mut Objects) -> Result<Reply, NoMemory>
+    ensures reply { IfOk result (λ reply. shown reply ≡ reply_of objects.old text.now) }
+    ensures after { OnOk result (objects.new ≡ objects_after objects.old text.now) }
+    ensures unchanged { OnErr result (objects.new ≡ objects.old) }
+{
+    match read_line(alloc, text) {
+        Ok(line) => objects.apply(line),
+        Err(LineFault::Bad) => Ok(Reply::Bad),
+        Err(LineFault::NoMemory) => Err(NoMemory),
+    }
+}

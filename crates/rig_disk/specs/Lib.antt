@@ -1,0 +1,4 @@
+pub mod Faults
+pub mod MemRig
+pub mod MemSource
+pub mod Said

@@ -1,0 +1,13 @@
+//! Worked examples that cross crates, by the numbers of docs/EXAMPLES.md. It has tests alone.
+#![tactic(auto)]
+
+#[cfg(test)]
+mod faults;
+#[cfg(test)]
+mod limits;
+#[cfg(test)]
+mod replies;
+#[cfg(test)]
+mod run;
+#[cfg(test)]
+mod texts;
