@@ -1,8 +1,9 @@
 //! The real outside: folders and standard output ([`FileRig`]), and standard input ([`StdSource`]). Both tell no
 //! contents, so what they do to files and streams is tested and trusted, and their counts of faults are proved.
 ghost use Rattle.std.specs.Prelude.{◌≡◌, ◌<◌, ◌≤◌, ◌==◌, ℕ, List, Option, None, IfOk, if◌then◌else◌};
+ghost use Rattle.rig_disk.specs.declared.limits.TheConstants.{VOICE};
 
-use crate::{Failed, MAX_SLOT, Rig, Source};
+use crate::{Failed, MAX_SLOT, Rig, Source, VOICE};
 use ec_words::NoMemory;
 use std::alloc::Global;
 use std::fs;
@@ -55,7 +56,7 @@ fn is_folder<T: Runtime>(rt: &T, alloc: Global, dir: &str, slot: usize) -> Resul
 impl<T: Runtime> Rig for FileRig<T> {
     ghost said = { λ _. None };
 
-    ghost faults = { λ rig slot. if slot == 17 then rig.voice_faults else 0 };
+    ghost faults = { λ rig slot. if slot == VOICE then rig.voice_faults else 0 };
 
     fn say(&mut self, bytes: &[u8]) -> Result<(), Failed> {
         match self.rt.write_all(bytes) {
