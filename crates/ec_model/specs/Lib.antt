@@ -1,3 +1,6 @@
+pub mod Codes
+pub mod Field
 pub mod Laws
 pub mod Objects
+pub mod Rows
 pub mod Stripes

@@ -1,3 +1,5 @@
 pub mod CallerLemmas
 mod FieldLemmas
 mod HexTextLemmas
+mod MaskLemmas
+mod NumberLemmas

@@ -1,0 +1,3 @@
+mod ChoosingLemmas
+mod DecidingLemmas
+mod EncodeLemmas

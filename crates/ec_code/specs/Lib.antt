@@ -1,0 +1,7 @@
+pub mod Choosing
+pub mod Encoding
+pub mod Faults
+pub mod Mappings
+pub mod Profiles
+pub mod Shapes
+pub mod Tables

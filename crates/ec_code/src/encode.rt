@@ -1,0 +1,75 @@
+//! The chunks of a stripe, by the rows of a code.
+ghost use Rattle.std.specs.Prelude.{◌≡◌, ◌+◌, ◌*◌, ◌<◌, ◌≤◌, ℕ, length, slice_index, bit_xor};
+ghost use Rattle.ec_model.specs.Field.{field_product};
+ghost use Rattle.ec_code.specs.Encoding.{IsChunk, AreChunks};
+
+use gf256::{add_into, mul_add_into};
+
+/// Adds a multiple of the unit of a stripe that begins at `at`.
+fn add_unit(coefficient: u8, stripe: &[u8], at: usize, chunk: &mut [u8])
+    requires { at + length chunk.old ≤ length stripe.now }
+    ensures { (b : ℕ) → b < length chunk.old → slice_index chunk.new b
+        ≡ bit_xor (slice_index chunk.old b) (field_product coefficient (slice_index stripe.now (at + b))) }
+{
+    let unit = &stripe[at..at + chunk.len()];
+    match coefficient {
+        0 => {}
+        1 => add_into(chunk, unit),
+        _ => mul_add_into(coefficient, chunk, unit),
+    }
+}
+
+fn clear(chunk: &mut [u8])
+    ensures { (b : ℕ) → b < length chunk.old → slice_index chunk.new b ≡ 0 }
+{
+    for x in chunk.iter_mut() {
+        *x = 0;
+    }
+}
+
+/// The chunk of a stripe of `k` units at one row.
+pub fn encode_chunk(row: &[u8; 16], k: u8, stripe: &[u8], unit: usize, chunk: &mut [u8])
+    requires k { k ≤ 16 }
+    requires stripe { length stripe.now ≡ k * unit }
+    requires unit { length chunk.old ≡ unit }
+    ensures { IsChunk k row.now stripe.now unit chunk.new }
+{
+    clear(chunk);
+    for j in 0..k as usize {
+        add_unit(row[j], stripe, j * unit, chunk);
+    }
+}
+
+/// The chunks of a stripe of `k` units at the first `n` rows, one after another.
+pub fn encode_rows(rows: &[[u8; 16]; 16], k: u8, n: u8, stripe: &[u8], unit: usize, out: &mut [u8])
+    requires k { k ≤ 16 }
+    requires n { n ≤ 16 }
+    requires stripe { length stripe.now ≡ k * unit }
+    requires out { length out.old ≡ n * unit }
+    ensures { AreChunks k rows.now stripe.now unit out.new n }
+{
+    for p in 0..n as usize {
+        let at = p * unit;
+        encode_chunk(&rows[p], k, stripe, unit, &mut out[at..at + unit]);
+    }
+}
+
+#[cfg(test)]
+mod tests {
+    use super::*;
+
+    // By hand: the sum of both units, and the first unit plus twice the second.
+    #[test]
+    fn each_chunk_is_the_sum_of_its_row(rt: HostRuntime) {
+        let mut rows = [[0u8; 16]; 16];
+        rows[0][0] = 1;
+        rows[1] = [1, 1, 0, 0, 0, 0, 0, 0, 0, 0, 0, 0, 0, 0, 0, 0];
+        rows[2] = [1, 2, 0, 0, 0, 0, 0, 0, 0, 0, 0, 0, 0, 0, 0, 0];
+        let mut out = [9u8; 9];
+        encode_rows(&rows, 2, 3, &[1, 2, 3, 4, 8, 0x80], 3, &mut out);
+        assert_eq!(rt;
+            out,
+            [1, 2, 3, 1 ^ 4, 2 ^ 8, 3 ^ 0x80, 1 ^ 8, 2 ^ 16, 3 ^ 0x1d]
+        );
+    }
+}

@@ -1,0 +1,191 @@
+//! Why a profile is refused.
+ghost use Rattle.std.specs.Prelude.{◌≡◌};
+ghost use Rattle.ec_code.specs.Faults.{number_of, fault_name_of, key_name_of};
+
+use ec_words::Bytes;
+use thiserror::Error;
+
+/// A key of a profile that a code can miss.
+#[derive(Clone, Copy, Debug, PartialEq, Eq)]
+pub enum Key {
+    K,
+    M,
+    C,
+    L,
+    Technique,
+    Mapping,
+    Layers,
+}
+
+impl Key {
+    /// The key as a profile writes it.
+    pub fn name(self) -> &'static str
+        ensures { result.now ≡ key_name_of self }
+    {
+        match self {
+            Key::K => "k",
+            Key::M => "m",
+            Key::C => "c",
+            Key::L => "l",
+            Key::Technique => "technique",
+            Key::Mapping => "mapping",
+            Key::Layers => "layers",
+        }
+    }
+}
+
+/// Why a profile is refused. It is printed as its name, without the key that it carries.
+#[derive(Debug, PartialEq, Eq, Drop, Error)]
+pub enum ProfileFault {
+    /// The plugin is none that is known.
+    #[error("UnknownPlugin")]
+    UnknownPlugin,
+    /// The plugin has no such key.
+    #[error("UnknownKey")]
+    UnknownKey(Bytes),
+    /// The value of this key hasn't its form.
+    #[error("BadValue")]
+    BadValue(Bytes),
+    /// A key that the plugin needs isn't there.
+    #[error("Missing")]
+    Missing(Key),
+    /// A technique that isn't the plugin's.
+    #[error("Technique")]
+    Technique,
+    /// w isn't 8.
+    #[error("Width")]
+    Width,
+    /// Too few data chunks.
+    #[error("SmallK")]
+    SmallK,
+    /// Too few coding chunks.
+    #[error("SmallM")]
+    SmallM,
+    /// Too many chunks.
+    #[error("TooMany")]
+    TooMany,
+    /// l doesn't divide what it has to.
+    #[error("Divides")]
+    Divides,
+    /// A layer isn't as long as the mapping.
+    #[error("LayerLength")]
+    LayerLength,
+    /// A layer has too few inputs, or one that isn't made before it.
+    #[error("LayerInput")]
+    LayerInput,
+    /// A layer has no output, or one that is made already, or a position is made by none.
+    #[error("LayerOutput")]
+    LayerOutput,
+    /// The stripe unit isn't a multiple of 32 from 32 to 65,536.
+    #[error("Unit")]
+    Unit,
+    /// min_size is out of its range.
+    #[error("MinSize")]
+    MinSize,
+    /// Not c ≤ m ≤ k.
+    #[error("Order")]
+    Order,
+    /// The text isn't JSON, or no object.
+    #[error("Json")]
+    Json,
+    /// A piece of the text is no setting.
+    #[error("Setting")]
+    Setting,
+}
+
+impl ProfileFault {
+    /// The number that is printed before the name.
+    pub fn number(&self) -> u8
+        ensures { result ≡ number_of self.now }
+    {
+        match self {
+            ProfileFault::UnknownPlugin => 1,
+            ProfileFault::UnknownKey(_) => 2,
+            ProfileFault::BadValue(_) => 3,
+            ProfileFault::Missing(_) => 4,
+            ProfileFault::Technique => 5,
+            ProfileFault::Width => 6,
+            ProfileFault::SmallK => 7,
+            ProfileFault::SmallM => 8,
+            ProfileFault::TooMany => 9,
+            ProfileFault::Divides => 10,
+            ProfileFault::LayerLength => 11,
+            ProfileFault::LayerInput => 12,
+            ProfileFault::LayerOutput => 13,
+            ProfileFault::Unit => 14,
+            ProfileFault::MinSize => 15,
+            ProfileFault::Order => 16,
+            ProfileFault::Json => 17,
+            ProfileFault::Setting => 18,
+        }
+    }
+
+    /// The name that is printed, and that `Display` writes.
+    pub fn name(&self) -> &'static str
+        ensures { result.now ≡ fault_name_of self.now }
+    {
+        match self {
+            ProfileFault::UnknownPlugin => "UnknownPlugin",
+            ProfileFault::UnknownKey(_) => "UnknownKey",
+            ProfileFault::BadValue(_) => "BadValue",
+            ProfileFault::Missing(_) => "Missing",
+            ProfileFault::Technique => "Technique",
+            ProfileFault::Width => "Width",
+            ProfileFault::SmallK => "SmallK",
+            ProfileFault::SmallM => "SmallM",
+            ProfileFault::TooMany => "TooMany",
+            ProfileFault::Divides => "Divides",
+            ProfileFault::LayerLength => "LayerLength",
+            ProfileFault::LayerInput => "LayerInput",
+            ProfileFault::LayerOutput => "LayerOutput",
+            ProfileFault::Unit => "Unit",
+            ProfileFault::MinSize => "MinSize",
+            ProfileFault::Order => "Order",
+            ProfileFault::Json => "Json",
+            ProfileFault::Setting => "Setting",
+        }
+    }
+}
+
+#[cfg(test)]
+mod tests {
+    use super::*;
+    use std::test::Fail;
+
+    // From the list of faults.
+    #[test]
+    fn a_fault_is_printed_as_its_name(rt: HostRuntime) -> Result<(), Fail> {
+        let alloc = rt.alloc();
+        let (one, other) = (
+            Bytes::from_slice(alloc, b"q")?,
+            Bytes::from_slice(alloc, b"q")?,
+        );
+        let rows: [(ProfileFault, u8, &str); 18] = [
+            (ProfileFault::UnknownPlugin, 1, "UnknownPlugin"),
+            (ProfileFault::UnknownKey(one), 2, "UnknownKey"),
+            (ProfileFault::BadValue(other), 3, "BadValue"),
+            (ProfileFault::Missing(Key::L), 4, "Missing"),
+            (ProfileFault::Technique, 5, "Technique"),
+            (ProfileFault::Width, 6, "Width"),
+            (ProfileFault::SmallK, 7, "SmallK"),
+            (ProfileFault::SmallM, 8, "SmallM"),
+            (ProfileFault::TooMany, 9, "TooMany"),
+            (ProfileFault::Divides, 10, "Divides"),
+            (ProfileFault::LayerLength, 11, "LayerLength"),
+            (ProfileFault::LayerInput, 12, "LayerInput"),
+            (ProfileFault::LayerOutput, 13, "LayerOutput"),
+            (ProfileFault::Unit, 14, "Unit"),
+            (ProfileFault::MinSize, 15, "MinSize"),
+            (ProfileFault::Order, 16, "Order"),
+            (ProfileFault::Json, 17, "Json"),
+            (ProfileFault::Setting, 18, "Setting"),
+        ];
+        for (fault, number, name) in &rows {
+            assert_eq!(rt; fault.number(), *number);
+            assert_eq!(rt; fault.name(), *name);
+            assert_eq!(rt; fault.to_string(alloc)?.as_str(), *name);
+        }
+        assert_eq!(rt; Key::L.name(), "l");
+        Ok(())
+    }
+}

@@ -1,0 +1,13 @@
+-- Numbers in texts. Source: this project.
+use Rattle.std.specs.Prelude.{◌≡◌, ◌<◌, ◌≤◌, ◌^◌, ℕ, List, length, slice_index}
+use Rattle.std.specs.Fmt.{decimal}
+
+-- a text is what is printed of a number below 2 ^ 64: its decimal digits, with no zero before them but in `0`
+abbrev pub IsNumberText : List ℕ → ℕ → Type 0
+IsNumberText text n = (n < 2 ^ 64) × (text ≡ decimal n)
+
+-- the first byte is a digit, and a `0` stands alone
+pub record StartsAsNumber (text : List ℕ) : Type 0 where
+  pub some : 1 ≤ length text
+  pub digit : (48 ≤ slice_index text 0) × (slice_index text 0 < 58)
+  pub alone : slice_index text 0 ≡ 48 → length text ≡ 1

@@ -1,0 +1,6 @@
+use Rattle.std.proofs.Common.{◌*◌}
+use Rattle.gf256.specs.Kernels.{AddsWithin}
+use Rattle.gf256.proofs.kernels.add_blocks.Given as goal
+
+abbrev pub invariant-loop-block : goal.invariant-loop-block
+invariant-loop-block l = AddsWithin (λ b. b) 0 (l.block * 32) l.fn.to l.from l.to
