@@ -1,3 +1,4 @@
 mod ChoosingLemmas
 mod DecidingLemmas
 mod EncodeLemmas
+pub mod RefusalLemmas

@@ -1,8 +1,9 @@
 //! What a code is.
-ghost use Rattle.std.specs.Prelude.{◌≡◌, ◌↔◌, ◌*◌, ◌<◌, ℕ, List, length, slice_index, IsTrue, IsErr};
+ghost use Rattle.std.specs.Prelude.{◌≡◌, ◌↔◌, ◌*◌, ◌<◌, ℕ, List, length, slice_index, IsTrue, IsOk, IsErr, IfErr};
 ghost use Rattle.ec_model.specs.Rows.{entry_at};
 ghost use Rattle.ec_model.specs.Codes.{CodeRows, IsCode, IsEncoded};
 ghost use Rattle.ec_code.specs.Profiles.{name_of};
+ghost use Rattle.ec_code.specs.Refusals.{IsCodeOf, KeepsPromise, IsAccepted, IsRefusedBy};
 ghost use Rattle.ec_code.specs.Shapes.{HasShape};
 
 use crate::{Profile, ProfileFault, Shape};
@@ -20,10 +21,14 @@ pub trait Code: Drop {
         ensures value { IsTrue result ↔ (plugin.now ≡ plugin_name self.now) }
         ensures is_code { IsCode (meaning self.now) };
 
-    /// Makes it the code of a profile of its plugin.
+    /// Makes it the code of a profile of its plugin. A profile that has a fault is refused by the first in the order.
     fn init(&mut self, profile: &Profile) -> Result<(), ProfileFault>
         requires { name_of profile.now.plugin ≡ plugin_name self.old }
         ensures is_code { IsCode (meaning self.new) }
+        ensures made { IsOk result → IsCodeOf profile.now (meaning self.new) }
+        ensures promise { IsOk result → KeepsPromise profile.now.plugin (meaning self.new) }
+        ensures accepted { IsOk result → IsAccepted profile.now }
+        ensures refused { IfErr result (IsRefusedBy profile.now) }
         ensures unchanged { IsErr result → meaning self.new ≡ meaning self.old }
         ensures kept { plugin_name self.new ≡ plugin_name self.old };
 

@@ -23,7 +23,7 @@ pub fn decides(code: &dyn Code, from: Mask, wanted: Mask) -> bool
     true
 }
 
-/// The coefficients by which the chunks of `from` make the chunk of position `p`, where they decide it.
+/// The coefficients by which the chunks of `from` make that of position `p`, where they decide it.
 pub fn combine(code: &dyn Code, from: Mask, p: u8) -> Option<[u8; 16]>
     requires from { LiesBelow (meaning code.now).n from.0 }
     requires p { p < (meaning code.now).n }
@@ -55,7 +55,8 @@ fn chosen(code: &dyn Code, from: Mask) -> Mat
 fn set_row(rows: &mut Mat, code: &dyn Code, q: u8)
     requires q { q < (meaning code.now).n }
     requires size { HasSize rows.old (meaning code.now).n (meaning code.now).k }
-    ensures value { (j : ℕ) → j < (meaning code.now).k → entry_at rows.new.rows q j ≡ entry_at (meaning code.now).rows q j }
+    ensures value { (j : ℕ) → j < (meaning code.now).k
+        → entry_at rows.new.rows q j ≡ entry_at (meaning code.now).rows q j }
     ensures others { (i j : ℕ) → i ≢ q → entry_at rows.new.rows i j ≡ entry_at rows.old.rows i j }
     ensures kept { HasSize rows.new (meaning code.now).n (meaning code.now).k }
 {
@@ -67,7 +68,8 @@ fn set_row(rows: &mut Mat, code: &dyn Code, q: u8)
 /// The row of a position.
 fn row_of(code: &dyn Code, p: u8) -> [u8; 16]
     requires { p < (meaning code.now).n }
-    ensures { (j : ℕ) → j < (meaning code.now).k → slice_index result j ≡ entry_at (meaning code.now).rows p j }
+    ensures { (j : ℕ) → j < (meaning code.now).k
+        → slice_index result j ≡ entry_at (meaning code.now).rows p j }
 {
     let mut row = [0u8; 16];
     for j in 0..code.shape().k {

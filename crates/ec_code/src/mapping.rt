@@ -66,7 +66,8 @@ impl Layers {
         requires { self.old.count < 16 }
         ensures count { self.new.count ≡ self.old.count + 1 }
         ensures layer { IsLayer text.now (layer_at self.new.each self.old.count) }
-        ensures kept { (i : ℕ) → i ≢ self.old.count → layer_at self.new.each i ≡ layer_at self.old.each i }
+        ensures kept { (i : ℕ) → i ≢ self.old.count
+            → layer_at self.new.each i ≡ layer_at self.old.each i }
     {
         self.each[self.count as usize] = Layer {
             first: front(text),

@@ -1,16 +1,15 @@
 //! A code that is given as a table.
-ghost use Rattle.std.specs.Prelude.{◌≡◌, ◌↔◌, ◌<◌, ◌≤◌, ℕ, IsTrue, IsSome, IfSome};
+ghost use Rattle.std.specs.Prelude.{◌≡◌, ◌↔◌, ◌<◌, ◌≤◌, ℕ, IsTrue, IsSome, IfSome, codes};
 ghost use Rattle.ec_model.specs.Rows.{unit_entry, entry_at};
 ghost use Rattle.ec_model.specs.Codes.{IsCode};
-ghost use Rattle.ec_code.specs.Profiles.{name_of};
 ghost use Rattle.ec_code.specs.Tables.{code_of};
 
-use crate::{Code, Plugin, Profile, ProfileFault, Shape, encode_rows};
+use crate::{Code, Profile, ProfileFault, Shape, encode_rows};
 
-/// A code of given rows, for tests and for tables that no plugin makes. No profile changes it.
+/// A code of given rows, for tests and for tables that no plugin makes. It goes by the name of the plugin shec, which isn't
+/// built yet, so it refuses every profile.
 #[derive(Clone, Copy, Debug)]
 pub struct TableCode {
-    plugin: Plugin,
     k: u8,
     n: u8,
     lead: u8,
@@ -20,22 +19,16 @@ pub struct TableCode {
 }
 
 impl TableCode {
-    /// The code of these rows and data positions, which goes by a plugin's name. `None` where they are no code.
-    pub fn of(
-        plugin: Plugin,
-        shape: Shape,
-        rows: [[u8; 16]; 16],
-        places: [u8; 16],
-    ) -> Option<TableCode>
-        ensures value { IfSome result (λ t. ⟦<TableCode as Code>⟧.meaning t ≡ code_of shape.k shape.n shape.lead rows places) }
-        ensures name { IfSome result (λ t. ⟦<TableCode as Code>⟧.plugin_name t ≡ name_of plugin) }
+    /// The code of these rows and data positions. `None` where they are no code.
+    pub fn of(shape: Shape, rows: [[u8; 16]; 16], places: [u8; 16]) -> Option<TableCode>
+        ensures value { IfSome result (λ t.
+            ⟦<TableCode as Code>⟧.meaning t ≡ code_of shape.k shape.n shape.lead rows places) }
         ensures some { IsSome result ↔ IsCode (code_of shape.k shape.n shape.lead rows places) }
     {
         if !is_code(shape, &rows, &places) {
             return None;
         }
         Some(TableCode {
-            plugin,
             k: shape.k,
             n: shape.n,
             lead: shape.lead,
@@ -48,14 +41,14 @@ impl TableCode {
 impl Code for TableCode {
     ghost meaning = { λ t. code_of t.k t.n t.lead t.rows t.places };
 
-    ghost plugin_name = { λ t. name_of t.plugin };
+    ghost plugin_name = { λ _. codes "shec" };
 
     fn named(&self, plugin: &str) -> bool {
-        plugin == self.plugin.name()
+        plugin == "shec"
     }
 
     fn init(&mut self, _profile: &Profile) -> Result<(), ProfileFault> {
-        Ok(())
+        Err(ProfileFault::UnknownPlugin)
     }
 
     fn shape(&self) -> Shape {
@@ -99,7 +92,8 @@ fn is_code(shape: Shape, rows: &[[u8; 16]; 16], places: &[u8; 16]) -> bool
 fn is_placed(rows: &[[u8; 16]; 16], place: u8, i: u8, shape: Shape) -> bool
     requires k { shape.k ≤ 16 }
     requires n { shape.n ≤ 16 }
-    ensures { IsTrue result ↔ ((place < shape.n) × ((j : ℕ) → j < shape.k → entry_at rows.now place j ≡ unit_entry i j)) }
+    ensures { IsTrue result ↔ ((place < shape.n)
+        × ((j : ℕ) → j < shape.k → entry_at rows.now place j ≡ unit_entry i j)) }
 {
     if shape.n <= place {
         return false;
@@ -116,7 +110,6 @@ fn is_placed(rows: &[[u8; 16]; 16], place: u8, i: u8, shape: Shape) -> bool
 #[cfg(test)]
 mod tests {
     use super::*;
-    use crate::Layers;
 
     const PARITY: [u8; 16] = [1, 1, 0, 0, 0, 0, 0, 0, 0, 0, 0, 0, 0, 0, 0, 0];
 
@@ -125,9 +118,7 @@ mod tests {
     const SECOND: [u8; 16] = [0, 1, 0, 0, 0, 0, 0, 0, 0, 0, 0, 0, 0, 0, 0, 0];
 
     /// Three rows, with the data chunks at the first two of these places.
-    fn placed(rows: [[u8; 16]; 3], n: u8, one: u8, other: u8) -> Option<TableCode>
-        ensures { IfSome result (λ t. ⟦<TableCode as Code>⟧.plugin_name t ≡ name_of Plugin.Shec) }
-    {
+    fn placed(rows: [[u8; 16]; 3], n: u8, one: u8, other: u8) -> Option<TableCode> {
         let mut all = [[0u8; 16]; 16];
         let mut places = [0u8; 16];
         let [a, b, c] = rows;
@@ -136,7 +127,7 @@ mod tests {
         all[2] = c;
         places[0] = one;
         places[1] = other;
-        TableCode::of(Plugin::Shec, Shape { k: 2, n, lead: 2 }, all, places)
+        TableCode::of(Shape { k: 2, n, lead: 2 }, all, places)
     }
 
     // By the rule: data chunk j stands at its place, and the row there is unit row j.
@@ -151,25 +142,6 @@ mod tests {
         assert!(rt; placed([FIRST, SECOND, PARITY], 2, 0, 2).is_none());
     }
 
-    /// A profile that has all keys.
-    fn profile() -> Profile
-        ensures { result.plugin ≡ Plugin.Shec }
-    {
-        Profile {
-            plugin: Plugin::Shec,
-            k: Some(2),
-            m: Some(1),
-            c: Some(1),
-            l: None,
-            w: Some(8),
-            technique: Some(crate::Technique::Single),
-            mapping: Some(crate::Mapping::of(b"DD_")),
-            layers: Some(Layers::new()),
-            stripe_unit: 4096,
-            min_size: None,
-        }
-    }
-
     fn first_place(code: &dyn Code) -> u8 {
         let _some = code.shape();
         code.place(0)
@@ -177,10 +149,9 @@ mod tests {
 
     #[test]
     fn a_table_answers_as_a_code(rt: HostRuntime) {
-        let mut code = placed([PARITY, SECOND, FIRST], 3, 2, 1).expect(&rt, "a code");
+        let code = placed([PARITY, SECOND, FIRST], 3, 2, 1).expect(&rt, "a code");
         assert!(rt; code.named("shec") && !code.named("lrc"));
         assert_eq!(rt; first_place(&code), 2);
-        assert_eq!(rt; code.init(&profile()), Ok(()));
         assert_eq!(rt;
             code.shape(),
             Shape {
@@ -189,6 +160,5 @@ mod tests {
                 lead: 2
             }
         );
-        assert_eq!(rt; profile(), profile());
     }
 }

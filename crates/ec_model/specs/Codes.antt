@@ -1,6 +1,6 @@
 -- Linear codes, and which positions decide which. Source: this project.
 -- A code has k data chunks and n positions. A column is k bytes, one of each data chunk; its chunk at a position is a byte.
-use Rattle.std.specs.Prelude.{◌≡◌, ◌<◌, ◌≤◌, ◌^◌, ◌*◌, ◌+◌, ℕ, List, length, slice_index}
+use Rattle.std.specs.Prelude.{◌≡◌, ◌<◌, ◌≤◌, ◌^◌, ◌*◌, ◌+◌, ℕ, List, zero, suc, length, slice_index}
 use Rattle.std.specs.Int.{bit_at}
 use Rattle.ec_model.specs.Field.{field_product}
 use Rattle.ec_model.specs.Rows.{dot, sum_below, row_at, entry_at, unit_entry}
@@ -48,6 +48,15 @@ pub record DecidesOne (code : CodeRows) (from p : ℕ) : Type 0 where
 -- a set decides each position of another
 abbrev pub Decides : CodeRows → ℕ → ℕ → Type 0
 Decides code from wanted = (p : ℕ) → p < code.n → HasPosition wanted p → DecidesOne code from p
+
+-- how many of the positions below n a mask has
+abbrev pub count_below : ℕ → ℕ → ℕ
+count_below mask zero = 0
+count_below mask (suc p) = bit_at mask p + count_below mask p
+
+-- any k positions decide all
+pub record AnyKDecideAll (code : CodeRows) : Type 0 where
+  pub each : (from p : ℕ) → code.k ≤ count_below from code.n → p < code.n → DecidesOne code from p
 
 -- coefficients on a set, 0 elsewhere, by which its rows make the row of position p
 pub record Combines (code : CodeRows) (from p : ℕ) (coefficients : List ℕ) : Type 0 where

@@ -1,6 +1,6 @@
 //! `decides` and `combine` beside a check over all columns.
 use super::*;
-use crate::{Plugin, Shape, TableCode};
+use crate::{Shape, TableCode};
 use gf256::mul;
 use std::test::Fail;
 
@@ -13,7 +13,7 @@ fn table(k: u8, rows: &[[u8; 4]]) -> Option<TableCode> {
     }
     let n = u8::try_from(rows.len()).ok()?;
     let places = [0, 1, 2, 3, 4, 5, 6, 7, 8, 9, 10, 11, 12, 13, 14, 15];
-    TableCode::of(Plugin::Jerasure, Shape { k, n, lead: k }, wide, places)
+    TableCode::of(Shape { k, n, lead: k }, wide, places)
 }
 
 fn times(a: u8, b: u8) -> u8 {

@@ -1,0 +1,9 @@
+//! The registry of plugins: from a profile to the code that it means.
+//!
+//! Headline: after `pick` with Ok the first box of the profile's plugin is the code of the profile, and all others are as
+//! they were; without such a box the plugin is unknown, and else the box's own fault is answered and no code has changed.
+#![tactic(auto)]
+
+mod picks;
+
+pub use picks::pick;

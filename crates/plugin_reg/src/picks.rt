@@ -1,0 +1,49 @@
+//! The choice of the box that serves a profile.
+ghost use Rattle.std.specs.Prelude.{◌≡◌, ◌≢◌, ◌<◌, ℕ, IfSome, IsNone, IfOk, IfErr, IsErr, Err, length, slice_index_or};
+ghost use Rattle.ec_code.specs.Profiles.{name_of};
+ghost use Rattle.ec_code.specs.Refusals.{IsCodeOf, KeepsPromise, IsAccepted, IsRefusedBy};
+
+use ec_code::{Code, Profile, ProfileFault};
+
+/// The first box that goes by a name.
+fn first_named(codes: &[Box<dyn Code>], name: &str) -> Option<usize>
+    ensures some { IfSome result (λ i. (i < length codes.now) × ((d : _) → plugin_name (slice_index_or codes.now i d) ≡ name.now)) }
+    ensures first { IfSome result (λ i. (j : ℕ) (d : _) → j < i → plugin_name (slice_index_or codes.now j d) ≢ name.now) }
+    ensures none { IsNone result → (j : ℕ) (d : _) → j < length codes.now → plugin_name (slice_index_or codes.now j d) ≢ name.now }
+{
+    for i in 0..codes.len() {
+        if codes[i].named(name) {
+            return Some(i);
+        }
+    }
+    None
+}
+
+/// Makes the first box that goes by the profile's plugin the code of the profile, and answers its number.
+pub fn pick(codes: &mut [Box<dyn Code>], profile: &Profile) -> Result<usize, ProfileFault>
+    ensures below { IfOk result (λ i. i < length codes.new) }
+    ensures boxes { length codes.new ≡ length codes.old }
+    ensures named { IfOk result (λ i. (d : _) → plugin_name (slice_index_or codes.old i d) ≡ name_of profile.now.plugin) }
+    ensures first { IfOk result (λ i. (j : ℕ) (d : _) → j < i → plugin_name (slice_index_or codes.old j d) ≢ name_of profile.now.plugin) }
+    ensures made { IfOk result (λ i. (d : _) → IsCodeOf profile.now (meaning (slice_index_or codes.new i d))) }
+    ensures promise { IfOk result (λ i. (d : _) → KeepsPromise profile.now.plugin (meaning (slice_index_or codes.new i d))) }
+    ensures accepted { IfOk result (λ _. IsAccepted profile.now) }
+    ensures others { IfOk result (λ i. (j : ℕ) (d : _) → j ≢ i → slice_index_or codes.new j d ≡ slice_index_or codes.old j d) }
+    ensures unknown { ((j : ℕ) (d : _) → j < length codes.old → plugin_name (slice_index_or codes.old j d) ≢ name_of profile.now.plugin)
+        → result ≡ Err ProfileFault.UnknownPlugin }
+    ensures refused { (i : ℕ) (d : _) → i < length codes.old → plugin_name (slice_index_or codes.old i d) ≡ name_of profile.now.plugin
+        → IfErr result (IsRefusedBy profile.now) }
+    ensures unchanged { IsErr result → (j : ℕ) (d : _) → meaning (slice_index_or codes.new j d) ≡ meaning (slice_index_or codes.old j d) }
+{
+    match first_named(codes, profile.plugin.name()) {
+        Some(i) => {
+            let code = &mut codes[i];
+            code.init(profile)?;
+            Ok(i)
+        }
+        None => Err(ProfileFault::UnknownPlugin),
+    }
+}
+
+#[cfg(test)]
+mod tests;

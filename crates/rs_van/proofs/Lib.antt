@@ -1,0 +1,5 @@
+mod AnyKLemmas
+mod InterpolationLemmas
+mod PolynomialLemmas
+mod RootLemmas
+mod SystematicLemmas

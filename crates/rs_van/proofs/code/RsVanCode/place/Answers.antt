@@ -1,0 +1,6 @@
+use Rattle.std.proofs.Common.{sym}
+use Rattle.rs_van.proofs.SystematicLemmas.{place_at}
+use Rattle.rs_van.proofs.code.RsVanCode.place.Goals as goal
+
+pub returns-clause-value : goal.returns-clause-value
+returns-clause-value c = sym (place_at c.args.self.now.k c.args.j c.requires)

@@ -1,0 +1,17 @@
+//! The code reed_sol_van of Ceph's plugin jerasure, with w = 8.
+//!
+//! The rows are those of the extended Vandermonde matrix, made systematic, and stand here in closed form
+//! ([`coding_entry`]): ones in the first coding row, and a first entry of one in each further row.
+//!
+//! Headline: after `RsVan::init` with Ok the rows are the closed form for the profile's k and m, and any k positions
+//! decide all; a profile that has a fault is refused by the first in the order.
+//!
+//! For k = 4 and m = 2 the coding rows are 1 1 1 1 and 1 70 143 200.
+#![tactic(auto)]
+
+mod code;
+mod counts;
+mod rows;
+
+pub use code::RsVan;
+pub use rows::coding_entry;
