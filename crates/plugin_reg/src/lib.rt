@@ -2,8 +2,12 @@
 //!
 //! Headline: after `pick` with Ok the first box of the profile's plugin is the code of the profile, and all others are as
 //! they were; without such a box the plugin is unknown, and else the box's own fault is answered and no code has changed.
+//!
+//! `print_profile` gives the canonical lines of a profile: its settings by the bytes of their keys.
 #![tactic(auto)]
 
 mod picks;
+mod printing;
 
 pub use picks::pick;
+pub use printing::print_profile;

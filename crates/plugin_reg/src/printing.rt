@@ -1,0 +1,130 @@
+//! The text of a profile.
+ghost use Rattle.std.specs.Prelude.{◌≡◌, ◌-◌, ◌<◌, ◌++◌, Some, IfOk, OnOk};
+ghost use Rattle.std.specs.Fmt.{decimal};
+ghost use Rattle.plugin_reg.specs.Canonical.{line_of, lines_of, least_of, jerasure_settings};
+
+use ec_code::{Plugin, Profile, Shape, default_min};
+use ec_words::{Bytes, NoMemory};
+use std::alloc::Global;
+
+/// Adds a setting whose value is a text.
+fn push_text(list: &mut Vec<u8>, key: &str, value: &str) -> Result<(), NoMemory>
+    ensures { OnOk result (list.new.items ≡ list.old.items ++ line_of (record { key = key.now; value = value.now })) }
+{
+    list.extend_from_slice(key.as_bytes())?;
+    list.push(b'=')?;
+    list.extend_from_slice(value.as_bytes())?;
+    list.push(b'\n')?;
+    Ok(())
+}
+
+/// Adds a setting whose value is a number.
+fn push_number(alloc: Global, list: &mut Vec<u8>, key: &str, value: u32) -> Result<(), NoMemory>
+    ensures { OnOk result (list.new.items ≡ list.old.items ++ line_of (record { key = key.now; value = decimal value })) }
+{
+    let digits = format!(in alloc; "{value}")?;
+    push_text(list, key, digits.as_str())
+}
+
+/// The canonical lines of a profile of the plugin jerasure, with the shape of its code: `KEY=VALUE` and a line feed for each
+/// setting, by the bytes of the keys.
+pub fn print_profile(alloc: Global, profile: &Profile, shape: Shape) -> Result<Bytes, NoMemory>
+    requires plugin { profile.now.plugin ≡ Plugin.Jerasure }
+    requires k { profile.now.k ≡ Some shape.k }
+    requires m { profile.now.m ≡ Some (shape.n - shape.k) }
+    requires n { shape.k < shape.n }
+    ensures { IfOk result (λ text. text ≡ lines_of (jerasure_settings shape.k (shape.n - shape.k)
+        (least_of profile.now.min_size shape.k shape.n) profile.now.stripe_unit)) }
+{
+    let least = match profile.min_size {
+        Some(least) => least,
+        None => u32::from(default_min(shape)),
+    };
+    let mut list = Vec::new(alloc);
+    push_number(alloc, &mut list, "k", u32::from(shape.k))?;
+    push_number(alloc, &mut list, "m", u32::from(shape.n - shape.k))?;
+    push_number(alloc, &mut list, "min_size", least)?;
+    push_text(&mut list, "plugin", profile.plugin.name())?;
+    push_number(alloc, &mut list, "stripe_unit", profile.stripe_unit)?;
+    push_text(&mut list, "technique", "reed_sol_van")?;
+    push_text(&mut list, "w", "8")?;
+    Ok(Bytes::of(list))
+}
+
+#[cfg(test)]
+mod tests {
+    use super::*;
+    use std::test::Fail;
+
+    /// The lines of a profile with these settings; none where they are no code's.
+    fn printed(
+        alloc: Global,
+        k: u8,
+        m: u8,
+        least: Option<u32>,
+        unit: u32,
+    ) -> Result<Bytes, NoMemory> {
+        if k == 0 || 16 < k || m == 0 || 16 < m {
+            return Ok(Bytes::new(alloc));
+        }
+        let profile = Profile {
+            plugin: Plugin::Jerasure,
+            k: Some(u32::from(k)),
+            m: Some(u32::from(m)),
+            c: None,
+            l: None,
+            w: None,
+            technique: None,
+            mapping: None,
+            layers: None,
+            stripe_unit: unit,
+            min_size: least,
+        };
+        let shape = Shape {
+            k,
+            n: k + m,
+            lead: k,
+        };
+        print_profile(alloc, &profile, shape)
+    }
+
+    // By the rule: the keys in byte order, the least number of positions k + 1 where there are two coding chunks or more.
+    #[test]
+    fn a_profile_is_printed_by_its_keys(rt: HostRuntime) -> Result<(), Fail> {
+        let rows: [(u8, u8, Option<u32>, u32, &str); 4] = [
+            (
+                2,
+                1,
+                None,
+                4096,
+                "k=2\nm=1\nmin_size=2\nplugin=jerasure\nstripe_unit=4096\ntechnique=reed_sol_van\nw=8\n",
+            ),
+            (
+                4,
+                2,
+                None,
+                32,
+                "k=4\nm=2\nmin_size=5\nplugin=jerasure\nstripe_unit=32\ntechnique=reed_sol_van\nw=8\n",
+            ),
+            (
+                4,
+                2,
+                Some(4),
+                32,
+                "k=4\nm=2\nmin_size=4\nplugin=jerasure\nstripe_unit=32\ntechnique=reed_sol_van\nw=8\n",
+            ),
+            (
+                10,
+                4,
+                Some(14),
+                65536,
+                "k=10\nm=4\nmin_size=14\nplugin=jerasure\nstripe_unit=65536\ntechnique=reed_sol_van\nw=8\n",
+            ),
+        ];
+        for (k, m, least, unit, text) in rows {
+            let lines = printed(rt.alloc(), k, m, least, unit)?;
+            assert_eq!(rt; lines.as_slice(), text.as_bytes(), "{k} {m}");
+        }
+        Ok(())
+    }
+}
