@@ -10,7 +10,7 @@ use Rattle.ec_code.specs.declared.profile.Profile.{Profile}
 use Rattle.ec_code.specs.declared.fault.ProfileFault.{ProfileFault}
 use Rattle.ec_code.specs.declared.fault.ProfileFault.TheVariants as fault
 use Rattle.ec_code.specs.Profiles.{name_of}
-use Rattle.ec_code.specs.Refusals.{fault_order, HasFaultOf, HasJerasureFault, IsFirst, IsUnit, Given, IsRefusedBy, IsPluginsCode, IsCodeOf, KeepsPromise}
+use Rattle.ec_code.specs.Refusals.{fault_order, HasFaultOf, HasJerasureFault, IsFirst, IsUnit, Given, IsRefusedBy, IsPluginsCode, IsCodeOf, IsAccepted, KeepsPromise}
 
 abbrev IsGiven : Option ℕ → Type 0
 IsGiven (Some _) = ⊤
@@ -102,3 +102,18 @@ pub jerasure_by_name : (q : Plugin) → name_of q ≡ codes "jerasure" → q ≡
 jerasure_by_name plugin.Jerasure e = refl
 jerasure_by_name plugin.Lrc e = absurd (omega (arith, ap length e))
 jerasure_by_name plugin.Shec e = absurd (omega (arith, ap length e))
+
+none_or_some : (m : ℕ) → (m < 1) ⊎ (1 ≤ m)
+none_or_some m = grind arith
+
+coding_of : (q : Plugin) (p : Profile) (code : CodeRows) → ((f : ProfileFault) → HasFaultOf q p f → ⊥) → IsPluginsCode q p code → code.k < code.n
+coding_of plugin.Jerasure p code ok is = elim (none_or_some is.2.0) [
+  | inl none ↦ absurd (ok fault.SmallM (is.2.0, is.2.1, none))
+  | inr some ↦ omega (arith, some, is.2.2.data_chunks, is.2.2.positions)
+]
+coding_of plugin.Lrc p code ok is = absurd is
+coding_of plugin.Shec p code ok is = absurd is
+
+-- the code of an accepted profile has a coding chunk
+pub some_coding : (p : Profile) (code : CodeRows) → IsAccepted p → IsCodeOf p code → code.k < code.n
+some_coding p code ok is = coding_of p.plugin p code ok is

@@ -8,7 +8,7 @@ ghost use Rattle.ec_code.specs.Shapes.{HasShape};
 
 use crate::{Profile, ProfileFault, Shape};
 
-/// A linear code, as an object. Before a first `init` it has one data chunk and no other position.
+/// A linear code, as an object. Before a first `init` that of a plugin has one data chunk and no other position.
 pub trait Code: Drop {
     /// Its numbers, its rows and its data positions.
     ghost meaning: { Self → CodeRows };

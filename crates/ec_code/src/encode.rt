@@ -3,7 +3,7 @@ ghost use Rattle.std.specs.Prelude.{◌≡◌, ◌+◌, ◌*◌, ◌<◌, ◌≤
 ghost use Rattle.ec_model.specs.Field.{field_product};
 ghost use Rattle.ec_code.specs.Encoding.{IsChunk, AreChunks};
 
-use gf256::{add_into, mul_add_into};
+use gf256::mul_add_into;
 
 /// Adds a multiple of the unit of a stripe that begins at `at`.
 fn add_unit(coefficient: u8, stripe: &[u8], at: usize, chunk: &mut [u8])
@@ -12,11 +12,7 @@ fn add_unit(coefficient: u8, stripe: &[u8], at: usize, chunk: &mut [u8])
         ≡ bit_xor (slice_index chunk.old b) (field_product coefficient (slice_index stripe.now (at + b))) }
 {
     let unit = &stripe[at..at + chunk.len()];
-    match coefficient {
-        0 => {}
-        1 => add_into(chunk, unit),
-        _ => mul_add_into(coefficient, chunk, unit),
-    }
+    mul_add_into(coefficient, chunk, unit);
 }
 
 fn clear(chunk: &mut [u8])

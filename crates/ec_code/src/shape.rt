@@ -1,5 +1,6 @@
 //! The numbers of a code.
-ghost use Rattle.std.specs.Prelude.{◌≡◌, ◌+◌, ◌-◌, ◌<◌, min};
+ghost use Rattle.std.specs.Prelude.{◌≡◌, ◌<◌};
+ghost use Rattle.ec_code.specs.Shapes.{default_least};
 
 /// The number of data chunks, the number of positions, and the divisor of chunk sizes.
 #[derive(Clone, Copy, Debug, PartialEq, Eq)]
@@ -12,7 +13,7 @@ pub struct Shape {
 /// The least number of positions that a pool works with, where its profile doesn't say.
 pub fn default_min(shape: Shape) -> u8
     requires { shape.k < shape.n }
-    ensures { result ≡ shape.k + min 1 (shape.n - shape.k - 1) }
+    ensures { result ≡ default_least shape.k shape.n }
 {
     shape.k + u8::min(1, shape.n - shape.k - 1)
 }

@@ -1,8 +1,9 @@
 -- The canonical lines of a profile. Source: this project, with Ceph's keys.
-use Rattle.std.specs.Prelude.{◌+◌, ◌-◌, ℕ, List, [], ◌∷◌, ◌++◌, min, codes, Some, None}
+use Rattle.std.specs.Prelude.{ℕ, List, [], ◌∷◌, ◌++◌, codes, Some, None}
 use Rattle.std.specs.List.{flat_map}
 use Rattle.std.specs.Fmt.{decimal}
 use Rattle.std.specs.declared.option.Option.{Option}
+use Rattle.ec_code.specs.Shapes.{default_least}
 
 -- a setting: its key and its value
 pub record Setting : Type 0 where
@@ -13,10 +14,10 @@ pub record Setting : Type 0 where
 abbrev pub line_of : Setting → List ℕ
 line_of s = s.key ++ 61 ∷ s.value ++ 10 ∷ []
 
--- the least number of positions: as the profile has it, else k and one more where there are two coding chunks or more
+-- the least number of positions: as the profile has it, or else the one of the code's shape
 abbrev pub least_of : Option ℕ → ℕ → ℕ → ℕ
 least_of (Some least) k n = least
-least_of None k n = k + min 1 (n - k - 1)
+least_of None k n = default_least k n
 
 -- the settings of a profile of the plugin jerasure, by the bytes of their keys
 abbrev pub jerasure_settings : ℕ → ℕ → ℕ → ℕ → List Setting

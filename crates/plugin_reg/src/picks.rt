@@ -33,6 +33,7 @@ pub fn pick(codes: &mut [Box<dyn Code>], profile: &Profile) -> Result<usize, Pro
         → result ≡ Err ProfileFault.UnknownPlugin }
     ensures refused { (i : ℕ) (d : _) → i < length codes.old → plugin_name (slice_index_or codes.old i d) ≡ name_of profile.now.plugin
         → IfErr result (IsRefusedBy profile.now) }
+    ensures kept { (j : ℕ) (d : _) → plugin_name (slice_index_or codes.new j d) ≡ plugin_name (slice_index_or codes.old j d) }
     ensures unchanged { IsErr result → (j : ℕ) (d : _) → meaning (slice_index_or codes.new j d) ≡ meaning (slice_index_or codes.old j d) }
 {
     match first_named(codes, profile.plugin.name()) {

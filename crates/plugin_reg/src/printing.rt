@@ -1,9 +1,12 @@
 //! The text of a profile.
-ghost use Rattle.std.specs.Prelude.{◌≡◌, ◌-◌, ◌<◌, ◌++◌, Some, IfOk, OnOk};
+ghost use Rattle.std.specs.Prelude.{◌≡◌, ◌-◌, ◌++◌, IfOk, OnOk};
 ghost use Rattle.std.specs.Fmt.{decimal};
+ghost use Rattle.ec_model.specs.Codes.{CodeRows};
+ghost use Rattle.ec_code.specs.Refusals.{IsCodeOf, IsAccepted};
+ghost use Rattle.ec_code.specs.Shapes.{HasShape};
 ghost use Rattle.plugin_reg.specs.Canonical.{line_of, lines_of, least_of, jerasure_settings};
 
-use ec_code::{Plugin, Profile, Shape, default_min};
+use ec_code::{Profile, Shape, default_min};
 use ec_words::{Bytes, NoMemory};
 use std::alloc::Global;
 
@@ -26,13 +29,11 @@ fn push_number(alloc: Global, list: &mut Vec<u8>, key: &str, value: u32) -> Resu
     push_text(list, key, digits.as_str())
 }
 
-/// The canonical lines of a profile of the plugin jerasure, with the shape of its code: `KEY=VALUE` and a line feed for each
-/// setting, by the bytes of the keys.
+/// The canonical lines of an accepted profile, with the shape of its code: `KEY=VALUE` and a line feed for each setting, by
+/// the bytes of the keys.
 pub fn print_profile(alloc: Global, profile: &Profile, shape: Shape) -> Result<Bytes, NoMemory>
-    requires plugin { profile.now.plugin ≡ Plugin.Jerasure }
-    requires k { profile.now.k ≡ Some shape.k }
-    requires m { profile.now.m ≡ Some (shape.n - shape.k) }
-    requires n { shape.k < shape.n }
+    requires accepted { IsAccepted profile.now }
+    requires shape { (code : CodeRows) × IsCodeOf profile.now code × HasShape code shape.k shape.n shape.lead }
     ensures { IfOk result (λ text. text ≡ lines_of (jerasure_settings shape.k (shape.n - shape.k)
         (least_of profile.now.min_size shape.k shape.n) profile.now.stripe_unit)) }
 {
@@ -54,23 +55,22 @@ pub fn print_profile(alloc: Global, profile: &Profile, shape: Shape) -> Result<B
 #[cfg(test)]
 mod tests {
     use super::*;
+    use ec_code::{Code, Plugin};
+    use rs_van::RsVan;
     use std::test::Fail;
 
-    /// The lines of a profile with these settings; none where they are no code's.
+    /// The lines of a profile with these settings; none where it is refused.
     fn printed(
         alloc: Global,
-        k: u8,
-        m: u8,
+        k: u32,
+        m: u32,
         least: Option<u32>,
         unit: u32,
     ) -> Result<Bytes, NoMemory> {
-        if k == 0 || 16 < k || m == 0 || 16 < m {
-            return Ok(Bytes::new(alloc));
-        }
         let profile = Profile {
             plugin: Plugin::Jerasure,
-            k: Some(u32::from(k)),
-            m: Some(u32::from(m)),
+            k: Some(k),
+            m: Some(m),
             c: None,
             l: None,
             w: None,
@@ -80,18 +80,17 @@ mod tests {
             stripe_unit: unit,
             min_size: least,
         };
-        let shape = Shape {
-            k,
-            n: k + m,
-            lead: k,
-        };
-        print_profile(alloc, &profile, shape)
+        let mut code = RsVan::new();
+        match code.init(&profile) {
+            Ok(()) => print_profile(alloc, &profile, code.shape()),
+            Err(_) => Ok(Bytes::new(alloc)),
+        }
     }
 
     // By the rule: the keys in byte order, the least number of positions k + 1 where there are two coding chunks or more.
     #[test]
     fn a_profile_is_printed_by_its_keys(rt: HostRuntime) -> Result<(), Fail> {
-        let rows: [(u8, u8, Option<u32>, u32, &str); 4] = [
+        let rows: [(u32, u32, Option<u32>, u32, &str); 4] = [
             (
                 2,
                 1,

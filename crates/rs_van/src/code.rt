@@ -1,6 +1,7 @@
 //! The code as an object.
-ghost use Rattle.std.specs.Prelude.{◌≡◌, codes};
+ghost use Rattle.std.specs.Prelude.{codes};
 ghost use Rattle.ec_model.specs.Codes.{IsCode};
+ghost use Rattle.ec_code.specs.Shapes.{HasShape};
 ghost use Rattle.rs_van.specs.Systematic.{systematic};
 
 use crate::counts::counts_of;
@@ -19,7 +20,7 @@ pub struct RsVan {
 impl RsVan {
     /// The code before `init`: one data chunk, and no other position.
     pub fn new() -> RsVan
-        ensures { (⟦<RsVan as Code>⟧.meaning result).n ≡ 1 }
+        ensures { HasShape (⟦<RsVan as Code>⟧.meaning result) 1 1 1 }
     {
         RsVan {
             k: 1,
