@@ -1,5 +1,6 @@
 -- Why a profile is refused. Source: this project.
-use Rattle.std.specs.Prelude.{ℕ, List, codes}
+use Rattle.std.specs.Prelude.{ℕ, List, codes, Some, None}
+use Rattle.std.specs.declared.option.Option.{Option}
 use Rattle.ec_code.specs.declared.fault.ProfileFault.{ProfileFault}
 use Rattle.ec_code.specs.declared.fault.ProfileFault.TheVariants as fault
 use Rattle.ec_code.specs.declared.fault.Key.{Key}
@@ -56,3 +57,10 @@ key_name_of key.L = codes "l"
 key_name_of key.Technique = codes "technique"
 key_name_of key.Mapping = codes "mapping"
 key_name_of key.Layers = codes "layers"
+
+-- the key that a fault carries
+abbrev pub carried_key : ProfileFault → Option (List ℕ)
+carried_key (fault.UnknownKey name) = Some name
+carried_key (fault.BadValue name) = Some name
+carried_key (fault.Missing name) = Some (key_name_of name)
+carried_key _ = None

@@ -3,6 +3,8 @@ pub mod Encoding
 pub mod Faults
 pub mod Mappings
 pub mod Profiles
+pub mod Readings
 pub mod Refusals
+pub mod Settings
 pub mod Shapes
 pub mod Tables

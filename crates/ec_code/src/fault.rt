@@ -1,6 +1,7 @@
 //! Why a profile is refused.
 ghost use Rattle.std.specs.Prelude.{◌≡◌};
-ghost use Rattle.ec_code.specs.Faults.{number_of, fault_name_of, key_name_of};
+ghost use Rattle.std.specs.Option.{option_map};
+ghost use Rattle.ec_code.specs.Faults.{number_of, fault_name_of, key_name_of, carried_key};
 
 use ec_words::Bytes;
 use thiserror::Error;
@@ -143,6 +144,20 @@ impl ProfileFault {
             ProfileFault::Order => "Order",
             ProfileFault::Json => "Json",
             ProfileFault::Setting => "Setting",
+        }
+    }
+}
+
+impl ProfileFault {
+    /// The key that is printed behind the name, where the fault carries one.
+    pub fn key(&self) -> Option<&[u8]>
+        ensures { option_map (λ key. key.now) result ≡ carried_key self.now }
+    {
+        match self {
+            ProfileFault::UnknownKey(key) => Some(key.as_slice()),
+            ProfileFault::BadValue(key) => Some(key.as_slice()),
+            ProfileFault::Missing(key) => Some(key.name().as_bytes()),
+            _ => None,
         }
     }
 }

@@ -1,0 +1,165 @@
+-- What the text of a profile means. Source: this project, with Ceph's keys and defaults.
+-- Read first: Settings.antt.
+use Rattle.std.specs.Prelude.{ℕ, Bool, true, false, not, ◌&&◌, ◌||◌, ◌*◌, ◌^◌, ◌-◌, nat_eq, nat_lt, if◌then◌else◌, List, [], ◌∷◌, length, take, filter, codes, bytes_eq, is_some, Some, None, Result, Ok, Err}
+use Rattle.std.specs.List.{list_any, starts_with, ends_with, reduce}
+use Rattle.std.specs.Option.{option_and_then}
+use Rattle.std.specs.Ordering.{nat_cmp, min_by_ordering}
+use Rattle.std.specs.Cmp.Lexicographic.{slice_cmp}
+use Rattle.std.specs.Fmt.{decimal}
+use Rattle.std.specs.Str.Parse.{digits_value}
+use Rattle.std.specs.Str.{is_utf8}
+use Rattle.std.specs.declared.option.Option.{Option}
+use Rattle.ec_code.specs.declared.profile.Plugin.{Plugin}
+use Rattle.ec_code.specs.declared.profile.Plugin.TheVariants as plugin
+use Rattle.ec_code.specs.declared.profile.Technique.{Technique}
+use Rattle.ec_code.specs.declared.profile.Technique.TheVariants as technique
+use Rattle.ec_code.specs.declared.profile.Profile.{Profile}
+use Rattle.ec_code.specs.declared.fault.ProfileFault.{ProfileFault}
+use Rattle.ec_code.specs.declared.fault.ProfileFault.TheVariants as fault
+use Rattle.ec_code.specs.Settings.{Setting, is_empty, has_settings, settings_of, keys_of, value_of}
+
+-- the number below 2^32 whose digits a text is, without a zero before them
+abbrev pub number_of_text : List ℕ → Option ℕ
+number_of_text text =
+    if bytes_eq text (decimal (digits_value 10 text)) && nat_lt (digits_value 10 text) (2 ^ 32) then Some (digits_value 10 text)
+    else None
+
+-- a number times 1024, where that is below 2^32
+abbrev pub kibibytes : ℕ → Option ℕ
+kibibytes n = if nat_lt (n * 1024) (2 ^ 32) then Some (n * 1024) else None
+
+-- a number of bytes below 2^32: digits, or digits and a `K` for times 1024
+abbrev pub unit_of_text : List ℕ → Option ℕ
+unit_of_text text =
+    if ends_with nat_eq text (75 ∷ []) then option_and_then kibibytes (number_of_text (take (length text - 1) text))
+    else number_of_text text
+
+-- `crush-` with anything after it, and `directory`
+abbrev pub is_ignored : List ℕ → Bool
+is_ignored key = starts_with nat_eq key (codes "crush-") || bytes_eq key (codes "directory")
+
+-- a key has this among its texts
+abbrev pub is_among : List (List ℕ) → List ℕ → Bool
+is_among texts key = list_any (λ text. bytes_eq key text) texts
+
+-- the keys of the plugin jerasure
+abbrev pub is_jerasure_key : List ℕ → Bool
+is_jerasure_key key = is_among (codes "plugin" ∷ codes "stripe_unit" ∷ codes "min_size" ∷ codes "k" ∷ codes "m" ∷ codes "technique"
+    ∷ codes "w" ∷ codes "packetsize" ∷ codes "jerasure-per-chunk-alignment" ∷ []) key
+
+-- the keys of a plugin; one that isn't built yet has none
+abbrev pub is_key_of : Plugin → List ℕ → Bool
+is_key_of plugin.Jerasure key = is_jerasure_key key
+is_key_of _ key = false
+
+-- a value has the form that its key asks for
+abbrev pub has_form : List ℕ → List ℕ → Bool
+has_form key value =
+    if is_ignored key then true
+    else if bytes_eq key (codes "plugin") || bytes_eq key (codes "technique") then not (is_empty value)
+    else if bytes_eq key (codes "jerasure-per-chunk-alignment") then bytes_eq value (codes "false")
+    else if bytes_eq key (codes "stripe_unit") then is_some (unit_of_text value)
+    else is_some (number_of_text value)
+
+-- the lesser of two texts by their bytes, and the least of some
+abbrev pub lesser : List ℕ → List ℕ → List ℕ
+lesser one other = min_by_ordering (slice_cmp nat_cmp one other) one other
+
+abbrev pub least_text : List (List ℕ) → Option (List ℕ)
+least_text texts = reduce lesser texts
+
+-- the value of a key, or a default
+abbrev pub value_or : {A : Type 0} → A → Option A → A
+value_or {A} default (Some value) = value
+value_or {A} default None = default
+
+-- a key that the plugin doesn't have
+abbrev pub is_unknown : Plugin → List ℕ → Bool
+is_unknown p key = not (is_ignored key || is_key_of p key)
+
+-- a key whose value hasn't its form
+abbrev pub is_bad : List Setting → List ℕ → Bool
+is_bad settings key = not (has_form key (value_or [] (value_of settings key)))
+
+-- the least of the keys that the plugin doesn't have, and of those whose values haven't their form
+abbrev pub unknown_key : Plugin → List Setting → Option (List ℕ)
+unknown_key p settings = least_text (filter (is_unknown p) (keys_of settings))
+
+abbrev pub bad_key : List Setting → Option (List ℕ)
+bad_key settings = least_text (filter (is_bad settings) (keys_of settings))
+
+-- the plugin of a name; so far jerasure alone is built
+abbrev pub plugin_named : List ℕ → Option Plugin
+plugin_named name = if bytes_eq name (codes "jerasure") then Some plugin.Jerasure else None
+
+abbrev pub plugin_of : List Setting → Option Plugin
+plugin_of settings = plugin_named (value_or (codes "jerasure") (value_of settings (codes "plugin")))
+
+-- the number, the unit and the technique that some settings give
+abbrev pub number_at : List Setting → List ℕ → Option ℕ
+number_at settings key = option_and_then number_of_text (value_of settings key)
+
+abbrev pub unit_at : List Setting → ℕ
+unit_at settings = value_or 4096 (option_and_then unit_of_text (value_of settings (codes "stripe_unit")))
+
+abbrev pub technique_named : List ℕ → Technique
+technique_named name =
+    if bytes_eq name (codes "reed_sol_van") then technique.ReedSolVan
+    else if bytes_eq name (codes "single") then technique.Single
+    else technique.Other
+
+abbrev pub technique_at : List Setting → Technique
+technique_at settings = technique_named (value_or (codes "reed_sol_van") (value_of settings (codes "technique")))
+
+-- the profile that some settings of a plugin give, with the defaults of the plugin
+abbrev pub profile_with : Plugin → List Setting → Profile
+profile_with p settings = record {
+  plugin = p;
+  k = number_at settings (codes "k");
+  m = number_at settings (codes "m");
+  c = None;
+  l = None;
+  w = Some (value_or 8 (number_at settings (codes "w")));
+  technique = Some (technique_at settings);
+  mapping = None;
+  layers = None;
+  stripe_unit = unit_at settings;
+  min_size = number_at settings (codes "min_size");
+}
+
+-- a fault that carries a key, where there is such a key
+abbrev pub refused_by : {A : Type 0} → (List ℕ → ProfileFault) → Option (List ℕ) → Result A ProfileFault → Result A ProfileFault
+refused_by {A} carrying (Some key) otherwise = Err (carrying key)
+refused_by {A} carrying None otherwise = otherwise
+
+-- the profile of some settings, or their first fault
+abbrev pub profile_of_plugin : Option Plugin → List Setting → Result Profile ProfileFault
+profile_of_plugin None settings = Err fault.UnknownPlugin
+profile_of_plugin (Some p) settings =
+    refused_by fault.UnknownKey (unknown_key p settings) (refused_by fault.BadValue (bad_key settings) (Ok (profile_with p settings)))
+
+-- the profile of a text, or the first of the faults Setting, UnknownPlugin, UnknownKey and BadValue
+abbrev pub profile_of : List ℕ → Result Profile ProfileFault
+profile_of text =
+    if not (has_settings text) then Err fault.Setting
+    else profile_of_plugin (plugin_of (settings_of text)) (settings_of text)
+
+-- the profile of some bytes; where they are no text, no piece of them is a setting
+abbrev pub profile_of_bytes : List ℕ → Result Profile ProfileFault
+profile_of_bytes bytes = if is_utf8 bytes then profile_of bytes else Err fault.Setting
+
+-- the profile of the plugin jerasure with these numbers, the technique reed_sol_van and words of 8 bits
+abbrev pub jerasure_profile : ℕ → ℕ → ℕ → ℕ → Profile
+jerasure_profile k m least unit = record {
+  plugin = plugin.Jerasure;
+  k = Some k;
+  m = Some m;
+  c = None;
+  l = None;
+  w = Some 8;
+  technique = Some technique.ReedSolVan;
+  mapping = None;
+  layers = None;
+  stripe_unit = unit;
+  min_size = Some least;
+}
