@@ -1,1 +1,3 @@
 pub mod Canonical
+pub mod Laws
+pub mod SettingTexts

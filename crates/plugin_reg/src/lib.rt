@@ -6,8 +6,14 @@
 //! `print_profile` gives the canonical lines of a profile: its settings by the bytes of their keys.
 #![tactic(auto)]
 
+mod forms;
+mod laws;
 mod picks;
 mod printing;
+mod reading;
+mod settings;
 
+pub use laws::lines_are_read_back;
 pub use picks::pick;
 pub use printing::print_profile;
+pub use reading::{RegFault, read_profile};

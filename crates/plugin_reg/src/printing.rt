@@ -4,7 +4,7 @@ ghost use Rattle.std.specs.Fmt.{decimal};
 ghost use Rattle.ec_model.specs.Codes.{CodeRows};
 ghost use Rattle.ec_code.specs.Refusals.{IsCodeOf, IsAccepted};
 ghost use Rattle.ec_code.specs.Shapes.{HasShape};
-ghost use Rattle.plugin_reg.specs.Canonical.{line_of, lines_of, least_of, jerasure_settings};
+ghost use Rattle.plugin_reg.specs.Canonical.{line_of, canonical_lines, PrintsAgain};
 
 use ec_code::{Profile, Shape, default_min};
 use ec_words::{Bytes, NoMemory};
@@ -34,8 +34,18 @@ fn push_number(alloc: Global, list: &mut Vec<u8>, key: &str, value: u32) -> Resu
 pub fn print_profile(alloc: Global, profile: &Profile, shape: Shape) -> Result<Bytes, NoMemory>
     requires accepted { IsAccepted profile.now }
     requires shape { (code : CodeRows) × IsCodeOf profile.now code × HasShape code shape.k shape.n shape.lead }
-    ensures { IfOk result (λ text. text ≡ lines_of (jerasure_settings shape.k (shape.n - shape.k)
-        (least_of profile.now.min_size shape.k shape.n) profile.now.stripe_unit)) }
+    ensures value { IfOk result (λ text. text ≡ canonical_lines profile.now shape.k shape.n) }
+    ensures again { IfOk result (λ text. PrintsAgain text shape.k shape.n shape.lead) }
+{
+    let text = jerasure_lines(alloc, profile, shape)?;
+    Ok(text)
+}
+
+// The lines of a profile of the plugin jerasure.
+fn jerasure_lines(alloc: Global, profile: &Profile, shape: Shape) -> Result<Bytes, NoMemory>
+    requires accepted { IsAccepted profile.now }
+    requires shape { (code : CodeRows) × IsCodeOf profile.now code × HasShape code shape.k shape.n shape.lead }
+    ensures { IfOk result (λ text. text ≡ canonical_lines profile.now shape.k shape.n) }
 {
     let least = match profile.min_size {
         Some(least) => least,
