@@ -4,6 +4,7 @@ use Rattle.std.specs.Prelude.{◌≡◌, ◌<◌, ◌≤◌, ◌^◌, ◌*◌, �
 use Rattle.std.specs.Int.{bit_at}
 use Rattle.ec_model.specs.Field.{field_product}
 use Rattle.ec_model.specs.Rows.{dot, sum_below, row_at, entry_at, unit_entry}
+use Rattle.ec_model.specs.Stripes.{stripe_count, shard_len, padded}
 
 -- a code: a row of k bytes for each of n positions, the position of each data chunk, and the divisor of chunk sizes
 pub record CodeRows : Type 0 where
@@ -70,3 +71,11 @@ pub record IsEncoded (code : CodeRows) (stripe : List ℕ) (unit : ℕ) (chunks 
   pub long : length chunks ≡ code.n * unit
   pub sums : (p b : ℕ) → p < code.n → b < unit
       → slice_index chunks (p * unit + b) ≡ sum_below code.k (λ j. field_product (entry_at code.rows p j) (slice_index stripe (j * unit + b)))
+
+-- the list of position p of an object: its chunk of each stripe, one after another. Byte b of the chunk of stripe t is the
+-- sum over the data chunks of that stripe, each times its entry in the row of p
+pub record IsPositionList (code : CodeRows) (unit : ℕ) (bytes : List ℕ) (p : ℕ) (list : List ℕ) : Type 0 where
+  pub long : length list ≡ shard_len code.k unit (length bytes)
+  pub sums : (t b : ℕ) → t < stripe_count code.k unit (length bytes) → b < unit
+      → slice_index list (t * unit + b) ≡ sum_below code.k (λ j.
+      field_product (entry_at code.rows p j) (slice_index (padded code.k unit bytes) ((t * code.k + j) * unit + b)))

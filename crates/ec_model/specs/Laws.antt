@@ -1,17 +1,23 @@
 -- Laws about the definitions of this crate. Source: this project.
 use Rattle.std.specs.Prelude.{◌≡◌, ◌≤◌, ℕ, List, [], ◌∷◌, length, Some}
 use Rattle.ec_model.specs.Objects.{Objects, Command, Refusal, refusal_of, apply_command, reply_to, reply_of_refusal}
-use Rattle.ec_model.specs.Stripes.{data_lists, position_lists, joined}
+use Rattle.ec_model.specs.Codes.{CodeRows, IsPositionList}
+use Rattle.ec_model.specs.Stripes.{data_lists, joined}
 
 -- k data positions give the object back
 abbrev pub DataListsJoinBack : Type 0
 DataListsJoinBack = (k unit : ℕ) (bytes : List ℕ) → 1 ≤ k → 1 ≤ unit
     → joined unit (data_lists k unit bytes) (length bytes) ≡ bytes
 
+-- the code of two data chunks and their sum
+abbrev pub parity_code : CodeRows
+parity_code = record { k = 2; n = 3; lead = 2; rows = (1 ∷ 0 ∷ []) ∷ (0 ∷ 1 ∷ []) ∷ (1 ∷ 1 ∷ []) ∷ []; places = 0 ∷ 1 ∷ [] }
+
 -- the bytes 1, 2, 3 in chunks of two bytes: the last is padded with a zero, and 1 xor 3 is 2
-abbrev pub ThreeBytesInThreeLists : Type 0
-ThreeBytesInThreeLists =
-    position_lists 2 (1 ∷ 2 ∷ 3 ∷ []) ≡ (1 ∷ 2 ∷ []) ∷ (3 ∷ 0 ∷ []) ∷ (2 ∷ 2 ∷ []) ∷ []
+pub record ThreeBytesInThreeLists : Type 0 where
+  pub first : IsPositionList parity_code 2 (1 ∷ 2 ∷ 3 ∷ []) 0 (1 ∷ 2 ∷ [])
+  pub second : IsPositionList parity_code 2 (1 ∷ 2 ∷ 3 ∷ []) 1 (3 ∷ 0 ∷ [])
+  pub parity : IsPositionList parity_code 2 (1 ∷ 2 ∷ 3 ∷ []) 2 (2 ∷ 2 ∷ [])
 
 -- a refused command leaves the objects, and its reply names the refusal
 abbrev pub RefusalChangesNothing : Type 0

@@ -1,8 +1,8 @@
 -- Stripes. Source: Ceph developer guide, "Erasure Coded pool" (stripe_width = k * stripe_unit, the last stripe is
 -- padded with zeros).
 -- `k` is the number of data chunks in a stripe, `unit` the bytes of a chunk, `size` the bytes of an object.
-use Rattle.std.specs.Prelude.{ℕ, ◌+◌, ◌-◌, ◌*◌, List, [], ◌∷◌, ◌++◌, map, length, take, drop, replicate, bit_xor}
-use Rattle.std.specs.List.{flat_map, range_with_len, zip}
+use Rattle.std.specs.Prelude.{ℕ, ◌+◌, ◌-◌, ◌*◌, List, ◌++◌, map, length, take, drop, replicate}
+use Rattle.std.specs.List.{flat_map, range_with_len}
 use Rattle.std.specs.Int.{div_ceil}
 
 -- the stripes of an object with `size` bytes
@@ -42,14 +42,3 @@ stripe_at unit lists stripe = flat_map (λ list. chunk_at unit list stripe) list
 abbrev pub joined : ℕ → List (List ℕ) → ℕ → List ℕ
 joined unit lists size =
     take size (flat_map (stripe_at unit lists) (range_with_len 0 (stripe_count (length lists) unit size)))
-
--- the sum of two lists, byte by byte
-abbrev pub xor_list : List ℕ → List ℕ → List ℕ
-xor_list xs ys = map (λ pair. bit_xor pair.0 pair.1) (zip xs ys)
-
--- the bytes of the three positions of a code with two data chunks and their sum
-abbrev pub position_lists : ℕ → List ℕ → List (List ℕ)
-position_lists unit bytes =
-    let first = data_list 2 unit bytes 0 in
-    let second = data_list 2 unit bytes 1 in
-    first ∷ second ∷ xor_list first second ∷ []

@@ -2,9 +2,11 @@
 //! all, and ends with its status.
 #![tactic(auto)]
 
+use ec_code::Code;
 use ec_words::NoMemory;
-use pool_run::ecpool;
+use pool_run::{Status, ecpool};
 use rig_disk::{FileRig, StdSource};
+use rs_van::RsVan;
 use std::env;
 use std::io::ErrorKind;
 use std::process::ExitCode;
@@ -30,18 +32,26 @@ fn words(rt: &HostRuntime) -> Result<Vec<String>, NoMemory> {
     Ok(words)
 }
 
-fn main(rt: HostRuntime) -> ExitCode {
-    let Ok(words) = words(&rt) else {
-        return ExitCode::from(NO_MEMORY);
-    };
+// Makes a box of each plugin that is built, the real rig and the real input, and does what the words ask for.
+fn run(rt: HostRuntime, words: &[String]) -> Result<Status, NoMemory> {
+    let alloc = rt.alloc();
+    let mut codes: Vec<Box<dyn Code>> = Vec::new(alloc);
+    codes.push(Box::new(alloc, RsVan::new())?)?;
     let dir = match words.get(1) {
         Some(dir) => dir.as_str(),
         None => HERE,
     };
-    let Ok(mut rig) = FileRig::open(rt, rt.alloc(), dir) else {
+    let mut rig = FileRig::open(rt, alloc, dir)?;
+    let mut source = StdSource::new(rt);
+    Ok(ecpool(alloc, words, &mut codes, &mut rig, &mut source))
+}
+
+fn main(rt: HostRuntime) -> ExitCode {
+    let Ok(words) = words(&rt) else {
         return ExitCode::from(NO_MEMORY);
     };
-    let mut source = StdSource::new(rt);
-    let status = ecpool(rt.alloc(), &words, &mut rig, &mut source);
-    ExitCode::from(status.0)
+    match run(rt, &words) {
+        Ok(status) => ExitCode::from(status.0),
+        Err(NoMemory) => ExitCode::from(NO_MEMORY),
+    }
 }

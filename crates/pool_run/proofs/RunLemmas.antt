@@ -9,12 +9,15 @@ use Rattle.std.proofs.lemmas.Grind.{flat_map-append}
 use Rattle.std.proofs.Math.Seq.{take-append-add, take-length}
 use Rattle.std.proofs.Math.Bool.{and-true}
 use Rattle.ec_model.specs.Objects.{Objects, Command, Reply, apply_line, apply_lines, reply_to_line, replies_to_lines}
+use Rattle.ec_model.specs.Codes.{CodeRows}
 use Rattle.rig_disk.specs.Said.{SaysFront}
 use Rattle.rig_disk.proofs.CallerLemmas.{Appends-none, Appends-more}
 use Rattle.pool_run.specs.Lines.{command_of, commands_of, kept_lines}
 use Rattle.pool_run.specs.Replies.{replies_to, replies_text, reply_text, is_done}
 use Rattle.pool_run.specs.Script.{IsRun}
+use Rattle.pool_run.specs.Stored.{StoredObjects, AreStored}
 use Rattle.pool_run.specs.Texts.{OneOf}
+use Rattle.pool_run.proofs.KeptLemmas.{none_kept}
 
 apply_lines-append : (objects : Objects) (xs ys : List (Option Command)) → apply_lines objects (xs ++ ys) ≡ apply_lines (apply_lines objects xs) ys
 apply_lines-append objects [] ys = refl
@@ -32,14 +35,14 @@ replies_from_none lines = replies_to_lines finite.empty (commands_of lines)
 abbrev objects_after : List (List ℕ) → Objects
 objects_after lines = apply_lines finite.empty (commands_of lines)
 
--- these lines are answered so far: what they left, whether each reply begins with `ok`, and what was said
-pub record Answered (lines : List (List ℕ)) (objects : Objects) (fine : Bool) (before now : Option (List ℕ)) : Type 0 where
-  pub left : objects ≡ objects_after lines
+-- these lines are answered so far: how what they left is kept, whether each reply begins with `ok`, and what was said
+pub record Answered (code : CodeRows) (unit : ℕ) (lines : List (List ℕ)) (stored : StoredObjects) (fine : Bool) (before now : Option (List ℕ)) : Type 0 where
+  pub kept : AreStored code unit (objects_after lines) stored
   pub all_done : fine ≡ list_all is_done (replies_from_none lines)
   pub said : Appends before now (replies_text (replies_from_none lines))
 
-pub nothing_answered : (objects : Objects) (now : Option (List ℕ)) → objects ≡ finite.empty → Answered [] objects true now now
-nothing_answered objects now e = record { left = e; all_done = refl; said = Appends-none now }
+pub nothing_answered : (code : CodeRows) (unit : ℕ) (stored : StoredObjects) (now : Option (List ℕ)) → stored ≡ finite.empty → Answered code unit [] stored true now now
+nothing_answered code unit stored now none = record { kept = none_kept code unit stored none; all_done = refl; said = Appends-none now }
 
 commands_of-push : (lines : List (List ℕ)) (x : List ℕ) → commands_of (lines ++ x ∷ []) ≡ commands_of lines ++ command_of x ∷ []
 commands_of-push lines x = map-append command_of lines (x ∷ [])
@@ -47,12 +50,10 @@ commands_of-push lines x = map-append command_of lines (x ∷ [])
 objects_after-push : (lines : List (List ℕ)) (x : List ℕ) → objects_after (lines ++ x ∷ []) ≡ apply_line (objects_after lines) (command_of x)
 objects_after-push lines x = ap (apply_lines finite.empty) (commands_of-push lines x) ∙ apply_lines-append finite.empty (commands_of lines) (command_of x ∷ [])
 
-replies_from_none-append : (lines more : List (List ℕ)) (objects : Objects) → objects ≡ objects_after lines
-    → replies_from_none (lines ++ more) ≡ replies_from_none lines ++ replies_to_lines objects (commands_of more)
-replies_from_none-append lines more objects e =
-    ap (replies_to_lines finite.empty) (map-append command_of lines more)
-    ∙ replies_to_lines-append finite.empty (commands_of lines) (commands_of more)
-    ∙ ap (λ o. replies_from_none lines ++ replies_to_lines o (commands_of more)) (sym e)
+replies_from_none-append : (lines more : List (List ℕ))
+    → replies_from_none (lines ++ more) ≡ replies_from_none lines ++ replies_to_lines (objects_after lines) (commands_of more)
+replies_from_none-append lines more =
+    ap (replies_to_lines finite.empty) (map-append command_of lines more) ∙ replies_to_lines-append finite.empty (commands_of lines) (commands_of more)
 
 replies_text-push : (rs : List Reply) (r : Reply) → replies_text (rs ++ r ∷ []) ≡ replies_text rs ++ reply_text r
 replies_text-push rs r = flat_map-append reply_text rs (r ∷ []) ∙ ap (λ t. replies_text rs ++ t) (append-nil (reply_text r))
@@ -60,17 +61,25 @@ replies_text-push rs r = flat_map-append reply_text rs (r ∷ []) ∙ ap (λ t. 
 list_all-push : (rs : List Reply) (r : Reply) → list_all is_done (rs ++ r ∷ []) ≡ (list_all is_done rs && is_done r)
 list_all-push rs r = list_all-append is_done rs (r ∷ []) ∙ ap (λ b. list_all is_done rs && b) (and-true (is_done r))
 
-pub one_answered : (lines : List (List ℕ)) (x : List ℕ) (objects next : Objects) (fine one both : Bool) (before now new : Option (List ℕ))
-    → Answered lines objects fine before now → next ≡ apply_line objects (command_of x) → one ≡ is_done (reply_to_line objects (command_of x)) → both ≡ (fine && one)
-    → Appends now new (reply_text (reply_to_line objects (command_of x))) → Answered (lines ++ x ∷ []) next both before new
-one_answered lines x objects next fine one both before now new a leaves ok and says =
-    let push : replies_from_none (lines ++ x ∷ []) ≡ replies_from_none lines ++ reply_to_line objects (command_of x) ∷ [] =
-    replies_from_none-append lines (x ∷ []) objects a.left
-    in
+-- what holds of each map of objects that is kept so
+abbrev pub OfKept : CodeRows → ℕ → StoredObjects → (Objects → Type 0) → Type 0
+OfKept code unit stored P = (objects : Objects) → AreStored code unit objects stored → P objects
+
+pub one_answered : (code : CodeRows) (unit : ℕ) (lines : List (List ℕ)) (x : List ℕ) (stored next : StoredObjects) (fine one both : Bool) (before now new : Option (List ℕ))
+    → Answered code unit lines stored fine before now → OfKept code unit stored (λ objects. AreStored code unit (apply_line objects (command_of x)) next)
+    → OfKept code unit stored (λ objects. one ≡ is_done (reply_to_line objects (command_of x))) → both ≡ (fine && one)
+    → OfKept code unit stored (λ objects. Appends now new (reply_text (reply_to_line objects (command_of x)))) → Answered code unit (lines ++ x ∷ []) next both before new
+one_answered code unit lines x stored next fine one both before now new a leaves ok and says =
+    let objects = objects_after lines in
+    let push : replies_from_none (lines ++ x ∷ []) ≡ replies_from_none lines ++ reply_to_line objects (command_of x) ∷ [] = replies_from_none-append lines (x ∷ []) in
     record {
-      left = leaves ∙ ap (λ o. apply_line o (command_of x)) a.left ∙ sym (objects_after-push lines x);
-      all_done = and ∙ (λ i. a.all_done i && ok i) ∙ sym (ap (list_all is_done) push ∙ list_all-push (replies_from_none lines) (reply_to_line objects (command_of x)));
-      said = subst (Appends before new) (sym (ap replies_text push ∙ replies_text-push (replies_from_none lines) (reply_to_line objects (command_of x)))) (Appends-more _ _ _ _ _ a.said says);
+      kept = subst (λ o. AreStored code unit o next) (sym (objects_after-push lines x)) (leaves objects a.kept);
+      all_done =
+          and ∙ (λ i. a.all_done i && ok objects a.kept i)
+          ∙ sym (ap (list_all is_done) push ∙ list_all-push (replies_from_none lines) (reply_to_line objects (command_of x)));
+      said =
+          subst (Appends before new) (sym (ap replies_text push ∙ replies_text-push (replies_from_none lines) (reply_to_line objects (command_of x))))
+          (Appends-more _ _ _ _ _ a.said (says objects a.kept));
     }
 
 front_of : (n : ℕ) (xs ys zs : List ℕ) → take (length xs + min n (length ys)) (xs ++ (ys ++ zs)) ≡ xs ++ take n ys
@@ -79,15 +88,17 @@ front_of n xs ys zs =
     ∙ ap (λ t. xs ++ t) (take-append-le (min n (length ys)) ys zs (omega arith) ∙ take_min n ys)
 
 -- a line whose reply was said in part
-pub part_answered : (lines more : List (List ℕ)) (x : List ℕ) (objects : Objects) (fine : Bool) (before now new : Option (List ℕ)) (script : List ℕ)
-    → Answered lines objects fine before now → kept_lines script ≡ lines ++ x ∷ more
-    → SaysFront now new (reply_text (reply_to_line objects (command_of x))) → SaysFront before new (replies_text (replies_to script))
-part_answered lines more x objects fine before now new script a is part =
+pub part_answered : (code : CodeRows) (unit : ℕ) (lines more : List (List ℕ)) (x : List ℕ) (stored : StoredObjects) (fine : Bool) (before now new : Option (List ℕ)) (script : List ℕ)
+    → Answered code unit lines stored fine before now → kept_lines script ≡ lines ++ x ∷ more
+    → OfKept code unit stored (λ objects. SaysFront now new (reply_text (reply_to_line objects (command_of x)))) → SaysFront before new (replies_text (replies_to script))
+part_answered code unit lines more x stored fine before now new script a is says =
+    let objects = objects_after lines in
+    let part = says objects a.kept in
     let r = reply_to_line objects (command_of x) in
     let rest = replies_text (replies_to_lines (apply_line objects (command_of x)) (commands_of more)) in
     let whole : replies_text (replies_to script) ≡ replies_text (replies_from_none lines) ++ (reply_text r ++ rest) =
     ap (λ ls. replies_text (replies_from_none ls)) is
-    ∙ ap replies_text (replies_from_none-append lines (x ∷ more) objects a.left)
+    ∙ ap replies_text (replies_from_none-append lines (x ∷ more))
     ∙ flat_map-append reply_text _ _
     in (
       length (replies_text (replies_from_none lines)) + min part.0 (length (reply_text r)),
@@ -117,9 +128,9 @@ refused_of true s e z = absurd (omega arith)
 refused_of false s e z = refl
 
 -- all lines are answered
-pub whole_answered : (lines : List (List ℕ)) (script : List ℕ) (objects : Objects) (fine : Bool) (before now : Option (List ℕ)) (status : ℕ)
-    → Answered lines objects fine before now → lines ≡ kept_lines script → status ≡ cond fine 0 1 → IsRun script status before now
-whole_answered lines script objects fine before now status a is e =
+pub whole_answered : (code : CodeRows) (unit : ℕ) (lines : List (List ℕ)) (script : List ℕ) (stored : StoredObjects) (fine : Bool) (before now : Option (List ℕ)) (status : ℕ)
+    → Answered code unit lines stored fine before now → lines ≡ kept_lines script → status ≡ cond fine 0 1 → IsRun script status before now
+whole_answered code unit lines script stored fine before now status a is e =
     let said : Appends before now (replies_text (replies_to script)) = subst (λ (ls : List (List ℕ)). Appends before now (replies_text (replies_from_none ls))) is a.said in
     let done : fine ≡ list_all is_done (replies_to script) = a.all_done ∙ ap (λ ls. list_all is_done (replies_from_none ls)) is in
     record {

@@ -1,14 +1,15 @@
 -- What was said, by the status in which a run ended.
-use Rattle.std.proofs.Common.{◌≡◌, ◌≢◌, ℕ, ◌+◌, ◌<◌, ◌≤◌, cond, inl, inr, refl, sym, ap, subst, ◌∙◌, List, [], ◌∷◌, ◌++◌, length, take, Option, Some, None, append-nil, arith, length-append}
+use Rattle.std.proofs.Common.{◌≡◌, ◌≢◌, ℕ, ◌+◌, ◌<◌, ◌≤◌, nat_lt, Bool, true, false, cond, inl, inr, refl, sym, ap, subst, ◌∙◌, List, [], ◌∷◌, ◌++◌, length, take, Option, Some, None, append-nil, arith, length-append}
+use Rattle.std.specs.Prelude.{if◌then◌else◌}
 use Rattle.std.specs.List.{list_all}
 use Rattle.std.specs.Io.KnownBytes.{Appends, Consumes, IsAtEnd}
-use Rattle.std.proofs.lemmas.Bool.{lt-ltb}
+use Rattle.std.proofs.lemmas.Bool.{lt-ltb, le-ltb}
 use Rattle.rig_disk.specs.Said.{SaysFront}
 use Rattle.rig_disk.proofs.CallerLemmas.{Appends-none}
 use Rattle.pool_run.specs.Headline.{IsAnswered, SaysInOrder, status_of}
 use Rattle.pool_run.specs.Replies.{replies_to, replies_text, is_done}
 use Rattle.pool_run.specs.Script.{IsRun, ReadsAll, HadMore}
-use Rattle.pool_run.specs.Texts.{OneOf, line_of, too_long_line, max_input}
+use Rattle.pool_run.specs.Texts.{OneOf, ComesFor, SaysItsLine, line_of, too_long_line, max_input}
 
 -- what was taken to the end is all that was left
 pub all_taken : (before now : Option (List ℕ)) (script input : List ℕ) → before ≡ Some script → ReadsAll before now input → input ≡ script
@@ -155,3 +156,46 @@ too_long_said script status before now left_before left told more one said front
   not_unread (inl e) f = omega arith
   not_unread (inr (inl e)) f = omega arith
   not_unread (inr (inr e)) f = e
+
+by_tests : (script : List ℕ) (long all : Bool) → nat_lt max_input (length script) ≡ long → list_all is_done (replies_to script) ≡ all
+    → status_of script ≡ (if long then 12 else if all then 0 else 1)
+by_tests script long all l a = ap (λ b. if b then 12 else if list_all is_done (replies_to script) then 0 else 1) l ∙ ap (λ b. if long then 12 else if b then 0 else 1) a
+
+-- where neither input nor output failed, the script tells the status
+pub completed : (script : List ℕ) (status : ℕ) (before now left : Option (List ℕ)) → IsAnswered script status before now left
+    → OneOf status (0 ∷ 1 ∷ 8 ∷ 9 ∷ 12 ∷ 13 ∷ []) → (status ≡ 8 → ⊥) → (status ≡ 9 → ⊥) → OneOf status (status_of script ∷ 13 ∷ [])
+completed script status before now left is (inl e) not_8 not_9 =
+    inl (e ∙ sym (by_tests script false true (le-ltb max_input (length script) (is.within (inl e))) (is.all_done e)))
+completed script status before now left is (inr (inl e)) not_8 not_9 =
+    inl (e ∙ sym (by_tests script false false (le-ltb max_input (length script) (is.within (inr (inl e)))) (is.some_refused e)))
+completed script status before now left is (inr (inr (inl e))) not_8 not_9 = absurd (not_8 e)
+completed script status before now left is (inr (inr (inr (inl e)))) not_8 not_9 = absurd (not_9 e)
+completed script status before now left is (inr (inr (inr (inr (inl e))))) not_8 not_9 =
+    inl (e ∙ sym (by_tests script true (list_all is_done (replies_to script)) (lt-ltb max_input (length script) (is.too_long e).0) refl))
+completed script status before now left is (inr (inr (inr (inr (inr (inl e)))))) not_8 not_9 = inr (inl e)
+completed script status before now left is (inr (inr (inr (inr (inr (inr e)))))) not_8 not_9 = absurd e
+
+-- a long script of an accepted profile ends with 12, or before that
+pub long_script : (script : List ℕ) (status : ℕ) (before now left : Option (List ℕ)) → IsAnswered script status before now left
+    → OneOf status (0 ∷ 1 ∷ 8 ∷ 9 ∷ 12 ∷ 13 ∷ []) → ComesFor (max_input < length script) 12 (8 ∷ 9 ∷ 13 ∷ []) status
+long_script script status before now left is one = record {
+  only = λ e. (is.too_long e).0;
+  comes = λ long. come one long;
+} where
+  come : OneOf status (0 ∷ 1 ∷ 8 ∷ 9 ∷ 12 ∷ 13 ∷ []) → max_input < length script → OneOf status (12 ∷ 8 ∷ 9 ∷ 13 ∷ [])
+  come (inl e) long = absurd (omega (arith, long, is.within (inl e)))
+  come (inr (inl e)) long = absurd (omega (arith, long, is.within (inr (inl e))))
+  come (inr (inr (inl e))) long = inr (inl e)
+  come (inr (inr (inr (inl e)))) long = inr (inr (inl e))
+  come (inr (inr (inr (inr (inl e))))) long = inl e
+  come (inr (inr (inr (inr (inr (inl e)))))) long = inr (inr (inr (inl e)))
+  come (inr (inr (inr (inr (inr (inr e)))))) long = absurd e
+
+-- where the words are a command, their status is not 2
+pub not_2 : (cause : Type 0) (status : ℕ) (before now : Option (List ℕ)) → (cause → ⊥) → (status ≡ 2 → ⊥) → SaysItsLine cause 2 before now status
+not_2 cause status before now never other = record {
+  only = λ e. absurd (other e);
+  comes = λ is. absurd (never is);
+  whole = λ e. absurd (other e);
+  front = λ is. absurd (never is);
+}

@@ -1,5 +1,5 @@
 -- A command line of two words.
-use Rattle.std.proofs.Common.{◌≡◌, ◌∷◌, [], List, ℕ, ◌<◌, ◌≤◌, length, get_or, ◌∙◌, arith, Bool, true, false, not, sym, refl}
+use Rattle.std.proofs.Common.{◌≡◌, ◌∷◌, [], List, ℕ, ◌<◌, ◌≤◌, length, get_or, ◌∙◌, arith, true, false, sym}
 use Rattle.std.specs.Prelude.{String, string_bytes, bytes_eq}
 use Rattle.std.specs.declared.alloc.Global.{Global}
 use Rattle.std.proofs.lemmas.Slice.Eq.{bytes_eq-Decides}
@@ -12,19 +12,11 @@ two_texts (x ∷ []) a b few many p q = absurd (omega arith)
 two_texts (x ∷ y ∷ []) a b few many p q = λ i. string_bytes (sym p i) ∷ string_bytes (sym q i) ∷ []
 two_texts (x ∷ y ∷ z ∷ more) a b few many p q = absurd (omega arith)
 
-true_of : (b : Bool) → false ≡ not b → b ≡ true
-true_of true e = refl
-true_of false e = e
+pub same_text : (shown xs ys : List ℕ) → shown ≡ xs → true ≡ bytes_eq shown ys → xs ≡ ys
+same_text shown xs ys is e = sym is ∙ (bytes_eq-Decides shown ys).0 (sym e)
 
-false_of : (b : Bool) → true ≡ not b → b ≡ false
-false_of true e = e
-false_of false e = refl
-
-pub same_text : (shown xs ys : List ℕ) → shown ≡ xs → false ≡ not (bytes_eq shown ys) → xs ≡ ys
-same_text shown xs ys is e = sym is ∙ (bytes_eq-Decides shown ys).0 (true_of _ e)
-
-pub other_text : (shown xs ys : List ℕ) → shown ≡ xs → true ≡ not (bytes_eq shown ys) → xs ≡ ys → ⊥
-other_text shown xs ys is e same = let t : true ≡ false = sym ((bytes_eq-Decides shown ys).1 (is ∙ same)) ∙ false_of _ e in cc
+pub other_text : (shown xs ys : List ℕ) → shown ≡ xs → false ≡ bytes_eq shown ys → xs ≡ ys → ⊥
+other_text shown xs ys is e same = let t : true ≡ false = sym ((bytes_eq-Decides shown ys).1 (is ∙ same)) ∙ sym e in cc
 
 pub two_words : (words : List (String Global)) (a b : String Global) (x y : List ℕ) → 2 ≤ length words → length words < 3
     → a ≡ get_or words 0 a → b ≡ get_or words 1 b → string_bytes a ≡ x → string_bytes b ≡ y → texts_of words ≡ x ∷ y ∷ []

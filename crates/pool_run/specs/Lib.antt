@@ -2,6 +2,7 @@ pub mod Grammar
 pub mod Headline
 pub mod Laws
 pub mod Lines
+pub mod Profiles
 pub mod Replies
 pub mod Script
 pub mod Stored

@@ -10,9 +10,6 @@ max_input = 65536
 abbrev pub usage_line : List ℕ
 usage_line = codes "usage: ecpool try PROFILE, create DIR PROFILE, run DIR [depth=N], profile PROFILE, mill DIR SEED COUNT\n"
 
-abbrev pub unbuilt_line : List ℕ
-unbuilt_line = codes "profile 0 Unbuilt\n"
-
 abbrev pub too_long_line : List ℕ
 too_long_line = codes "too long\n"
 
@@ -20,7 +17,6 @@ too_long_line = codes "too long\n"
 abbrev pub line_of : ℕ → List ℕ
 line_of status =
     if status == 2 then usage_line
-    else if status == 3 then unbuilt_line
     else if status == 12 then too_long_line
     else []
 

@@ -6,11 +6,13 @@
 //! The script `full a 0102` and `get a` is answered `ok` and `ok 0102`, with status 0.
 #![tactic(auto)]
 
+mod commands;
 mod laws;
 mod limits;
 mod line;
 mod object;
 mod objects;
+mod profiles;
 mod program;
 mod reply;
 mod script;

@@ -1,115 +1,231 @@
-//! An object as its coded chunks: positions 0 and 1 hold the data chunks of each stripe, and position 2 their sum.
-ghost use Rattle.std.specs.Prelude.{◌≡◌, ◌<◌, ◌*◌, ◌/◌, ◌%◌, ◌∷◌, [], IfOk, length};
-ghost use Rattle.std.specs.List.{flat_map, range_with_len};
-ghost use Rattle.ec_model.specs.Objects.{Object};
-ghost use Rattle.ec_model.specs.Stripes.{padded, data_chunk, shard_len, joined, xor_list};
-ghost use Rattle.pool_run.specs.Stored.{unit};
+//! An object as its coded chunks: the list of a position has that position's chunk of each stripe, one after another.
+ghost use Rattle.std.specs.Prelude.{◌≡◌, ◌<◌, ◌≤◌, ◌+◌, ◌*◌, ℕ, List, [], ◌++◌, length, map, replicate, IfOk, OnOk};
+ghost use Rattle.ec_model.specs.Codes.{IsEncoded};
+ghost use Rattle.ec_model.specs.Stripes.{padded, chunk_at};
+ghost use Rattle.pool_run.specs.Stored.{IsStored, list_at, stripe_of};
 
-use crate::limits::UNIT;
+use ec_code::Code;
 use ec_words::{Bytes, NoMemory};
 use std::alloc::Global;
 use std::marker::Model;
 
-/// The bytes of a stripe: two data chunks.
-const WIDTH: usize = 2 * UNIT;
-
-/// An object, kept as its size and a list of chunks for each position. A contract sees the object.
+/// An object, kept as its size and a list of chunks for each position. A contract sees the two.
 #[derive(Debug, Drop)]
 pub struct StoredObject {
     size: usize,
-    first: Vec<u8>,
-    second: Vec<u8>,
-    parity: Vec<u8>,
+    lists: Vec<Vec<u8>>,
 }
 
 impl Model for StoredObject {
-    ghost use Rattle.std.specs.Prelude.{◌≡◌, ◌∷◌, []};
-    ghost use Rattle.ec_model.specs.Objects.{Object, coded_object};
-    ghost use Rattle.ec_model.specs.Stripes.{joined};
-    ghost use Rattle.pool_run.specs.Stored.{AreChunkLists, unit};
+    ghost use Rattle.std.specs.Prelude.{map};
+    ghost use Rattle.pool_run.specs.Stored.{Stored, coded_stored};
 
-    ghost Value = { Object };
+    ghost Value = { Stored };
 
-    ghost coded = { coded_object };
+    ghost coded = { coded_stored };
 
-    ghost view = { λ o. record { bytes = joined unit (o.first.items ∷ o.second.items ∷ []) o.size } };
-
-    ghost invariant = { λ o. AreChunkLists o.size o.first.items o.second.items o.parity.items };
+    ghost view = { λ o. record { size = o.size; lists = map (λ list. list.items) o.lists.items } };
 }
 
 impl StoredObject {
     /// The chunks of an object with these bytes.
-    pub fn encode(alloc: Global, bytes: &[u8]) -> Result<StoredObject, NoMemory>
-        ensures { IfOk result (λ object. object ≡ record { bytes = bytes.now }) }
+    pub fn encode(
+        alloc: Global,
+        code: &dyn Code,
+        unit: usize,
+        bytes: &[u8],
+    ) -> Result<StoredObject, NoMemory>
+        requires some { 1 ≤ unit }
+        requires few { unit ≤ 65536 }
+        ensures { IfOk result (IsStored (meaning code.now) unit bytes.now) }
     {
-        let whole = padded(alloc, bytes)?;
-        let first = data_list(alloc, &whole, 0)?;
-        let second = data_list(alloc, &whole, 1)?;
-        let parity = xor_list(alloc, &first, &second)?;
+        let shape = code.shape();
+        let whole = padded(alloc, bytes, shape.k, unit)?;
+        let mut lists = empty_lists(alloc, shape.n)?;
+        let mut chunks = vec![in alloc; 0u8; shape.n as usize * unit]?;
+        for stripe in 0..bytes.len().div_ceil(shape.k as usize * unit) {
+            encode_stripe(code, unit, &whole, stripe, &mut chunks);
+            append_chunks(&mut lists, &chunks, unit)?;
+        }
         Ok(StoredObject {
             size: bytes.len(),
-            first,
-            second,
-            parity,
+            lists,
         })
     }
 
     /// The object's bytes, joined from the lists of the data positions.
-    pub fn decode(&self, alloc: Global) -> Result<Bytes, NoMemory>
-        ensures { IfOk result (λ bytes. bytes ≡ self.now.bytes) }
+    pub fn decode(&self, alloc: Global, code: &dyn Code, unit: usize) -> Result<Bytes, NoMemory>
+        requires some { 1 ≤ unit }
+        requires few { unit ≤ 65536 }
+        requires stored { (bytes : List ℕ) × IsStored (meaning code.now) unit bytes self.now }
+        ensures { IfOk result (λ found. (bytes : List ℕ) → IsStored (meaning code.now) unit bytes self.now
+            → found ≡ bytes) }
     {
-        let list = joined(alloc, &self.first, &self.second, self.size)?;
-        Ok(Bytes::of(list))
+        let k = code.shape().k;
+        let mut whole = Vec::new(alloc);
+        for stripe in 0..self.size.div_ceil(k as usize * unit) {
+            join_stripe(code, unit, &self.lists, stripe, &mut whole)?;
+        }
+        whole.truncate(self.size);
+        Ok(Bytes::of(whole))
     }
 }
 
-// The bytes, padded with zeros to whole stripes.
-fn padded(alloc: Global, bytes: &[u8]) -> Result<Vec<u8>, NoMemory>
-    ensures { IfOk result (λ whole. whole.items ≡ padded 2 unit bytes.now) }
+// The bytes, padded with zeros to whole stripes of `k` units.
+fn padded(alloc: Global, bytes: &[u8], k: u8, unit: usize) -> Result<Vec<u8>, NoMemory>
+    requires some_data { 1 ≤ k }
+    requires some { 1 ≤ unit }
+    requires few { unit ≤ 65536 }
+    ensures { IfOk result (λ whole. whole.items ≡ padded k unit bytes.now) }
 {
+    let width = k as usize * unit;
     let mut whole = Vec::from_slice(alloc, bytes)?;
-    whole.resize(bytes.len().div_ceil(WIDTH) * WIDTH, 0)?;
+    whole.resize(bytes.len().div_ceil(width) * width, 0)?;
     Ok(whole)
 }
 
-// Data chunk `j` of each stripe, one after another.
-fn data_list(alloc: Global, whole: &[u8], j: usize) -> Result<Vec<u8>, NoMemory>
-    requires { j < 2 }
-    ensures { IfOk result (λ list. list.items
-        ≡ flat_map (data_chunk 2 unit whole.now j) (range_with_len 0 (length whole.now / (2 * unit)))) }
+// A list without bytes for each of `n` positions.
+fn empty_lists(alloc: Global, n: u8) -> Result<Vec<Vec<u8>>, NoMemory>
+    ensures { IfOk result (λ lists. map (λ list. list.items) lists.items ≡ replicate n []) }
 {
-    let mut list = Vec::new(alloc);
-    for stripe in 0..whole.len() / WIDTH {
-        let at = (stripe * 2 + j) * UNIT;
-        list.extend_from_slice(&whole[at..at + UNIT])?;
+    let mut lists = Vec::new(alloc);
+    for _ in 0..n {
+        lists.push(Vec::new(alloc))?;
     }
-    Ok(list)
+    Ok(lists)
 }
 
-// The sum of two lists, byte by byte.
-fn xor_list(alloc: Global, first: &[u8], second: &[u8]) -> Result<Vec<u8>, NoMemory>
-    ensures { IfOk result (λ list. list.items ≡ xor_list first.now second.now) }
+// The chunk with this index in a list of chunks.
+fn chunk(list: &[u8], index: usize, unit: usize) -> &[u8]
+    requires { index * unit + unit ≤ length list.now }
+    ensures value { result.now ≡ chunk_at unit list.now index }
+    ensures long { length result.now ≡ unit }
 {
-    let list = first
-        .iter()
-        .zip(second.iter())
-        .map(|(a, b)| *a ^ *b)
-        .collect(alloc)?;
-    Ok(list)
+    let at = index * unit;
+    &list[at..at + unit]
 }
 
-// The object of this size: its stripes, a chunk of each list, without the padding.
-fn joined(alloc: Global, first: &[u8], second: &[u8], size: usize) -> Result<Vec<u8>, NoMemory>
-    requires first_long { length first.now ≡ shard_len 2 unit size }
-    requires second_long { length second.now ≡ shard_len 2 unit size }
-    ensures { IfOk result (λ list. list.items ≡ joined unit (first.now ∷ second.now ∷ []) size) }
+// Writes the chunks of the stripe with this index.
+fn encode_stripe(code: &dyn Code, unit: usize, whole: &[u8], stripe: usize, chunks: &mut [u8])
+    requires whole { stripe * ((meaning code.now).k * unit) + (meaning code.now).k * unit
+        ≤ length whole.now }
+    requires chunks { length chunks.old ≡ (meaning code.now).n * unit }
+    ensures { IsEncoded (meaning code.now) (chunk_at ((meaning code.now).k * unit) whole.now stripe)
+        unit chunks.new }
 {
-    let mut list = Vec::new(alloc);
-    for stripe in 0..first.len() / UNIT {
-        let at = stripe * UNIT;
-        list.extend_from_slice(&first[at..at + UNIT])?;
-        list.extend_from_slice(&second[at..at + UNIT])?;
+    let width = code.shape().k as usize * unit;
+    code.encode_unit(chunk(whole, stripe, width), unit, chunks);
+}
+
+// The list of each position gets its chunk of a stripe.
+fn append_chunks(lists: &mut [Vec<u8>], chunks: &[u8], unit: usize) -> Result<(), NoMemory>
+    requires { length chunks.now ≡ length lists.old * unit }
+    ensures long { length lists.new ≡ length lists.old }
+    ensures each { OnOk result ((p : ℕ) → p < length lists.old → list_at (map (λ list. list.items) lists.new) p
+        ≡ list_at (map (λ list. list.items) lists.old) p ++ chunk_at unit chunks.now p) }
+{
+    for p in 0..lists.len() {
+        lists[p].extend_from_slice(chunk(chunks, p, unit))?;
     }
-    list.truncate(size);
-    Ok(list)
+    Ok(())
+}
+
+// Adds the chunks of the data positions in a stripe.
+fn join_stripe(
+    code: &dyn Code,
+    unit: usize,
+    lists: &[Vec<u8>],
+    stripe: usize,
+    whole: &mut Vec<u8>,
+) -> Result<(), NoMemory>
+    requires as_many { length lists.now ≡ (meaning code.now).n }
+    requires long { (p : ℕ) → p < (meaning code.now).n
+        → stripe * unit + unit ≤ length (list_at (map (λ list. list.items) lists.now) p) }
+    ensures { OnOk result (whole.new.items ≡ whole.old.items
+        ++ stripe_of (meaning code.now) unit (map (λ list. list.items) lists.now) stripe) }
+{
+    for j in 0..code.shape().k {
+        let list = &lists[code.place(j) as usize];
+        whole.extend_from_slice(chunk(list, stripe, unit))?;
+    }
+    Ok(())
+}
+
+#[cfg(test)]
+mod tests {
+    use super::*;
+    use ec_code::{Shape, TableCode};
+    use std::test::Fail;
+
+    // The rows of reed_sol_van with k=4 and m=2.
+    fn four_and_two() -> Option<TableCode> {
+        let mut rows = [[0u8; 16]; 16];
+        let mut places = [0u8; 16];
+        for j in 0..4u8 {
+            rows[j as usize][j as usize] = 1;
+            places[j as usize] = j;
+        }
+        rows[4] = [1, 1, 1, 1, 0, 0, 0, 0, 0, 0, 0, 0, 0, 0, 0, 0];
+        rows[5] = [1, 70, 143, 200, 0, 0, 0, 0, 0, 0, 0, 0, 0, 0, 0, 0];
+        let shape = Shape {
+            k: 4,
+            n: 6,
+            lead: 4,
+        };
+        TableCode::of(shape, rows, places)
+    }
+
+    fn kept(
+        alloc: Global,
+        code: &dyn Code,
+        unit: usize,
+        bytes: &[u8],
+    ) -> Result<(StoredObject, Bytes), NoMemory>
+        requires some { 1 ≤ unit }
+        requires few { unit ≤ 65536 }
+    {
+        let object = StoredObject::encode(alloc, code, unit, bytes)?;
+        let back = object.decode(alloc, code, unit)?;
+        Ok((object, back))
+    }
+
+    // By hand: 1 + 2 + 3 + 4 is 4, and 1 + 70 * 2 + 143 * 3 + 200 * 4 is 1 + 140 + 140 + 7, which is 6.
+    #[test]
+    fn each_position_has_its_list(rt: HostRuntime) -> Result<(), Fail> {
+        let alloc = rt.alloc();
+        let code = four_and_two().expect(&rt, "a code");
+        let mut bytes = Vec::new(alloc);
+        for i in 0..128u8 {
+            bytes.push(1 + i / 32)?;
+        }
+        let (object, back) = kept(alloc, &code, 32, &bytes)?;
+        assert_eq!(rt; back.as_slice(), bytes.as_slice());
+        for (list, byte) in object.lists.iter().zip([1u8, 2, 3, 4, 4, 6].iter()) {
+            assert_eq!(rt; list.as_slice(), [*byte; 32].as_slice());
+        }
+        Ok(())
+    }
+
+    // By hand: 100,000 bytes are 7 stripes of 16,384.
+    #[test]
+    fn lists_are_whole_chunks(rt: HostRuntime) -> Result<(), Fail> {
+        let alloc = rt.alloc();
+        let code = four_and_two().expect(&rt, "a code");
+        for (size, long) in [
+            (0usize, 0usize),
+            (1, 4_096),
+            (16_384, 4_096),
+            (100_000, 28_672),
+        ] {
+            let mut bytes = Vec::new(alloc);
+            bytes.resize(size, 7)?;
+            let (object, back) = kept(alloc, &code, 4096, &bytes)?;
+            assert_eq!(rt; back.as_slice(), bytes.as_slice(), "at {size}");
+            assert_eq!(rt; object.lists.len(), 6, "at {size}");
+            for list in &object.lists {
+                assert_eq!(rt; list.len(), long, "at {size}");
+            }
+        }
+        Ok(())
+    }
 }

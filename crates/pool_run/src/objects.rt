@@ -1,20 +1,21 @@
 //! The objects of a run, in memory.
-ghost use Rattle.std.specs.Prelude.{◌≡◌, IfOk, OnOk, OnErr};
+ghost use Rattle.std.specs.Prelude.{◌≡◌, ◌≤◌, IfOk, OnOk, OnErr};
 ghost use Rattle.std.specs.FinMap as map;
-ghost use Rattle.ec_model.specs.Objects.{Object, apply_command, reply_to};
+ghost use Rattle.ec_model.specs.Objects.{Objects as ObjectMap, apply_command, reply_to};
 ghost use Rattle.pool_run.specs.Lines.{command_of_line};
 ghost use Rattle.pool_run.specs.Replies.{shown};
-ghost use Rattle.pool_run.specs.Stored.{bytes_at};
+ghost use Rattle.pool_run.specs.Stored.{AreStored, bytes_at};
 
 use crate::line::Line;
 use crate::object::StoredObject;
 use crate::reply::Reply;
+use ec_code::Code;
 use ec_words::{Bytes, Name, NoMemory};
 use std::alloc::Global;
 use std::collections::BTreeMap;
 use std::marker::Model;
 
-/// The objects of a run. A contract sees the map from their names.
+/// The objects of a run. A contract sees the map from their names to what is kept of them.
 #[derive(Drop)]
 pub struct Objects {
     alloc: Global,
@@ -27,11 +28,11 @@ impl Model for Objects {
     ghost use Rattle.std.specs.Cmp.Lexicographic.{slice_cmp};
     ghost use Rattle.std.specs.Coded.{coded_ℕ, coded_list};
     ghost use Rattle.std.specs.FinMap as map;
-    ghost use Rattle.ec_model.specs.Objects.{Object, coded_object};
+    ghost use Rattle.pool_run.specs.Stored.{Stored, coded_stored};
 
-    ghost Value = { map.FinMap (slice_cmp nat_cmp) Object };
+    ghost Value = { map.FinMap (slice_cmp nat_cmp) Stored };
 
-    ghost coded = { map.code (coded_list coded_ℕ) coded_object };
+    ghost coded = { map.code (coded_list coded_ℕ) coded_stored };
 
     ghost view = { λ o. map.from_entries o.objects.entries };
 }
@@ -48,17 +49,23 @@ impl Objects {
     }
 
     /// Does a line and answers it. After an `Err` nothing has changed.
-    pub fn apply(&mut self, line: Line) -> Result<Reply, NoMemory>
-        ensures reply { IfOk result (λ reply. shown reply ≡ reply_to self.old (command_of_line line)) }
-        ensures ok { OnOk result (self.new ≡ apply_command self.old (command_of_line line)) }
+    pub fn apply(&mut self, line: Line, code: &dyn Code, unit: usize) -> Result<Reply, NoMemory>
+        requires some { 1 ≤ unit }
+        requires few { unit ≤ 65536 }
+        requires stored { (objects : ObjectMap) × AreStored (meaning code.now) unit objects self.old }
+        ensures reply { IfOk result (λ reply. (objects : ObjectMap)
+            → AreStored (meaning code.now) unit objects self.old
+            → shown reply ≡ reply_to objects (command_of_line line)) }
+        ensures ok { OnOk result ((objects : ObjectMap) → AreStored (meaning code.now) unit objects self.old
+            → AreStored (meaning code.now) unit (apply_command objects (command_of_line line)) self.new) }
         ensures unchanged { OnErr result (self.new ≡ self.old) }
     {
         match line {
             Line::Full { name, bytes } => {
-                self.set_bytes(name, &bytes)?;
+                self.set_bytes(name, &bytes, code, unit)?;
                 Ok(Reply::Done(Bytes::new(self.alloc)))
             }
-            Line::Get { name } => match self.bytes(&name)? {
+            Line::Get { name } => match self.bytes(&name, code, unit)? {
                 Some(bytes) => Reply::of_bytes(self.alloc, bytes.as_slice()),
                 None => Ok(Reply::Absent),
             },
@@ -66,20 +73,35 @@ impl Objects {
     }
 
     // The object of this name gets these bytes. After an `Err` nothing has changed.
-    fn set_bytes(&mut self, name: Name, bytes: &Bytes) -> Result<(), NoMemory>
-        ensures ok { OnOk result (self.new ≡ map.insert self.old name (record { bytes = bytes.now })) }
+    fn set_bytes(
+        &mut self,
+        name: Name,
+        bytes: &Bytes,
+        code: &dyn Code,
+        unit: usize,
+    ) -> Result<(), NoMemory>
+        requires some { 1 ≤ unit }
+        requires few { unit ≤ 65536 }
+        ensures ok { OnOk result ((objects : ObjectMap) → AreStored (meaning code.now) unit objects self.old
+            → AreStored (meaning code.now) unit
+            (map.insert objects name (record { bytes = bytes.now })) self.new) }
         ensures unchanged { OnErr result (self.new ≡ self.old) }
     {
-        let object = StoredObject::encode(self.alloc, bytes.as_slice())?;
+        let object = StoredObject::encode(self.alloc, code, unit, bytes.as_slice())?;
         self.objects.insert(name, object)?;
         Ok(())
     }
 
-    fn bytes(&self, name: &Name) -> Result<Option<Bytes>, NoMemory>
-        ensures { IfOk result (λ found. found ≡ bytes_at self.now name.now) }
+    fn bytes(&self, name: &Name, code: &dyn Code, unit: usize) -> Result<Option<Bytes>, NoMemory>
+        requires some { 1 ≤ unit }
+        requires few { unit ≤ 65536 }
+        requires stored { (objects : ObjectMap) × AreStored (meaning code.now) unit objects self.now }
+        ensures { IfOk result (λ found. (objects : ObjectMap)
+            → AreStored (meaning code.now) unit objects self.now
+            → found ≡ bytes_at objects name.now) }
     {
         match self.objects.get(name) {
-            Some(object) => Ok(Some(object.decode(self.alloc)?)),
+            Some(object) => Ok(Some(object.decode(self.alloc, code, unit)?)),
             None => Ok(None),
         }
     }

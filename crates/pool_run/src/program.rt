@@ -1,14 +1,15 @@
 //! The one call of the program `ecpool`: all that it does, but for its real input and output.
-ghost use Rattle.std.specs.Prelude.{◌≡◌, ◌≢◌, ◌<◌, ◌∷◌, [], List, ℕ, Some, length};
+ghost use Rattle.std.specs.Prelude.{◌≡◌, ◌≢◌, ◌<◌, ◌∷◌, [], List, ℕ, Some, length, slice_index_or, string_bytes};
 ghost use Rattle.std.specs.Io.KnownBytes.{Appends};
 ghost use Rattle.rig_disk.specs.Faults.{Rose};
-ghost use Rattle.rig_disk.specs.Said.{SaysFront};
 ghost use Rattle.pool_run.specs.Headline.{IsAnswered, status_of};
+ghost use Rattle.pool_run.specs.Profiles.{GivesProfile, IsRefused, AsksToShow, AsksFor, ShowsProfile, SaysFault, IsAskedFor};
 ghost use Rattle.pool_run.specs.Texts.{OneOf, ComesFor, SaysItsLine, line_of, max_input};
-ghost use Rattle.pool_run.specs.Words.{AreWrong, AreUnbuilt, AskTry, Asks, served_profile};
+ghost use Rattle.pool_run.specs.Words.{AreWrong, AskTry, AskProfile, Asks, whole_input, served_plugin};
 
-use crate::script::{InputFault, read_input, run_script};
-use crate::texts::{PROFILE, TOO_LONG, UNBUILT, USAGE};
+use crate::commands::{say_last, show_input, show_profile, try_profile};
+use crate::texts::USAGE;
+use ec_code::Code;
 use rig_disk::{Rig, Source, VOICE};
 use std::alloc::Global;
 
@@ -18,100 +19,97 @@ pub struct Status(pub u8);
 
 // What the words ask for.
 #[derive(Clone, Copy, Debug, PartialEq, Eq)]
-enum Request {
+enum Request<'a> {
     Wrong,
-    Unbuilt,
-    Try,
+    Try(&'a str),
+    Show(&'a str),
+    ShowInput,
 }
 
-/// Does what the words of the command line ask for, over this input and this rig's output.
+/// Does what the words of the command line ask for, over this input and this rig's output. `codes` has a box of the plugin
+/// jerasure; the first of a profile's plugin becomes the profile's code.
 pub fn ecpool<R: Rig, S: Source>(
     alloc: Global,
     words: &[String],
+    codes: &mut Vec<Box<dyn Code>>,
     rig: &mut R,
     source: &mut S,
 ) -> Status
+    requires { (i : ℕ) × (i < length codes.old.items) × ((d : _) → plugin_name (slice_index_or codes.old.items i d) ≡ served_plugin) }
     ensures statuses { OneOf result.0 (0 ∷ 1 ∷ 2 ∷ 3 ∷ 8 ∷ 9 ∷ 12 ∷ 13 ∷ []) }
 
     // What is said to a script is a prefix of the map's replies to it, and then the line of the status.
-    ensures headline { (script : List ℕ) → AskTry words.now served_profile → S.left source.old ≡ Some script
+    ensures headline { (profile script : List ℕ) (p : _) → AskTry words.now profile → GivesProfile profile p
+        → S.left source.old ≡ Some script
         → IsAnswered script result.0 (R.said rig.old) (R.said rig.new) (S.left source.new) }
 
     // Where nothing fails, the whole script is answered, or memory ran out.
-    ensures complete { (script : List ℕ) → AskTry words.now served_profile → S.left source.old ≡ Some script
+    ensures complete { (profile script : List ℕ) (p : _) → AskTry words.now profile → GivesProfile profile p
+        → S.left source.old ≡ Some script
         → ¬ (Rose (S.faults source.old) (S.faults source.new))
         → ¬ (Rose (R.faults rig.old VOICE) (R.faults rig.new VOICE))
         → OneOf result.0 (status_of script ∷ 13 ∷ []) }
 
-    // When each status comes. Status 13, for want of memory, is free.
+    // An accepted profile is shown by its canonical lines and its rows.
+    ensures shown { (profile : List ℕ) (p : _) → AsksToShow words.now (S.left source.old) profile → GivesProfile profile p
+        → ShowsProfile p result.0 (R.said rig.old) (R.said rig.new) }
+
+    // A profile is refused exactly where it has a fault, by the line of its first one.
+    ensures refused { (profile : List ℕ) (f : _) → AsksFor words.now (S.left source.old) profile → IsRefused profile f
+        → SaysFault profile result.0 (R.said rig.old) (R.said rig.new) }
+    ensures status_3 { result.0 ≡ 3 → (profile : List ℕ) × (f : _) × IsRefused profile f
+        × IsAskedFor words.now (S.left source.old) (S.left source.new) profile }
+
+    // When each other status comes. Status 13, for want of memory, is free.
     ensures status_2 { SaysItsLine (AreWrong words.now) 2 (R.said rig.old) (R.said rig.new) result.0 }
-    ensures status_3 { SaysItsLine (AreUnbuilt words.now) 3 (R.said rig.old) (R.said rig.new) result.0 }
     ensures status_8 { result.0 ≡ 8 → Rose (S.faults source.old) (S.faults source.new) }
     ensures status_9 { result.0 ≡ 9 → Rose (R.faults rig.old VOICE) (R.faults rig.new VOICE) }
-    ensures status_12 { (script : List ℕ) → AskTry words.now served_profile → S.left source.old ≡ Some script
-        → ComesFor (max_input < length script) 12 (8 ∷ 9 ∷ 13 ∷ []) result.0 }
+    ensures status_12 { (profile script : List ℕ) (p : _) → AskTry words.now profile → GivesProfile profile p
+        → S.left source.old ≡ Some script → ComesFor (max_input < length script) 12 (8 ∷ 9 ∷ 13 ∷ []) result.0 }
+    ensures long_profile { (input : List ℕ) → AskProfile words.now whole_input → S.left source.old ≡ Some input
+        → ComesFor (max_input < length input) 12 (8 ∷ 9 ∷ 13 ∷ []) result.0 }
 
-    // Status 12 says its line and nothing else, and 2 and 3 leave the input alone.
+    // Status 12 says its line and nothing else. Statuses 2 and 3 leave the input alone, where the profile isn't its text.
     ensures too_long { result.0 ≡ 12 → Appends (R.said rig.old) (R.said rig.new) (line_of 12) }
-    ensures unread { OneOf result.0 (2 ∷ 3 ∷ []) → source.new ≡ source.old }
+    ensures unread { OneOf result.0 (2 ∷ 3 ∷ []) → ¬ (AskProfile words.now whole_input) → source.new ≡ source.old }
 
-    // With status 0 or 1 no count of faults rose, and no slot's count ever changes.
+    // With status 0 or 1 no count of faults rose, and no slot's count ever changes. The boxes go by their names.
     ensures quiet_source { OneOf result.0 (0 ∷ 1 ∷ []) → S.faults source.new ≡ S.faults source.old }
     ensures quiet_voice { OneOf result.0 (0 ∷ 1 ∷ []) → R.faults rig.new VOICE ≡ R.faults rig.old VOICE }
     ensures slots { (slot : ℕ) → slot ≢ VOICE → R.faults rig.new slot ≡ R.faults rig.old slot }
+    ensures boxes { length codes.new.items ≡ length codes.old.items }
+    ensures kept { (j : ℕ) (d : _) → plugin_name (slice_index_or codes.new.items j d) ≡ plugin_name (slice_index_or codes.old.items j d) }
 {
     match requested(words) {
         Request::Wrong => say_last(rig, USAGE, 2),
-        Request::Unbuilt => say_last(rig, UNBUILT, 3),
-        Request::Try => try_script(alloc, rig, source),
+        Request::Try(profile) => try_profile(alloc, profile.as_bytes(), codes, rig, source),
+        Request::Show(profile) => show_profile(alloc, profile.as_bytes(), codes, rig),
+        Request::ShowInput => show_input(alloc, codes, rig, source),
     }
 }
 
-fn requested(words: &[String]) -> Request
+fn requested<'a>(words: &'a [String]) -> Request<'a>
     ensures { Asks words.now result }
 {
     let [word, profile] = words else {
         return Request::Wrong;
     };
-    if word.as_str() != "try" {
-        Request::Wrong
-    } else if profile.as_str() != PROFILE {
-        Request::Unbuilt
+    if word.as_str() == "try" {
+        Request::Try(profile.as_str())
+    } else if word.as_str() == "profile" {
+        shown(profile)
     } else {
-        Request::Try
+        Request::Wrong
     }
 }
 
-// Reads the input to its end and answers it from no objects.
-fn try_script<R: Rig, S: Source>(alloc: Global, rig: &mut R, source: &mut S) -> Status
-    ensures statuses { OneOf result.0 (0 ∷ 1 ∷ 8 ∷ 9 ∷ 12 ∷ 13 ∷ []) }
-    ensures script { (script : List ℕ) → S.left source.old ≡ Some script
-        → IsAnswered script result.0 (R.said rig.old) (R.said rig.new) (S.left source.new) }
-    ensures too_long { result.0 ≡ 12 → Appends (R.said rig.old) (R.said rig.new) (line_of 12) }
-    ensures source { result.0 ≡ 8 → Rose (S.faults source.old) (S.faults source.new) }
-    ensures voice { result.0 ≡ 9 → Rose (R.faults rig.old VOICE) (R.faults rig.new VOICE) }
-    ensures quiet_source { OneOf result.0 (0 ∷ 1 ∷ []) → S.faults source.new ≡ S.faults source.old }
-    ensures quiet_voice { OneOf result.0 (0 ∷ 1 ∷ []) → R.faults rig.new VOICE ≡ R.faults rig.old VOICE }
-    ensures slots { (slot : ℕ) → slot ≢ VOICE → R.faults rig.new slot ≡ R.faults rig.old slot }
+// The profile that `profile` is asked to show: its word, or the input for `-`.
+fn shown<'a>(profile: &'a String) -> Request<'a>
+    ensures { (words : _) → AskProfile words (string_bytes profile.now) → Asks words result }
 {
-    match read_input(alloc, source) {
-        Ok(script) => run_script(alloc, &script, rig),
-        Err(InputFault::TooLong) => say_last(rig, TOO_LONG, 12),
-        Err(InputFault::Failed) => Status(8),
-        Err(InputFault::NoMemory) => Status(13),
-    }
-}
-
-// Says a last line and ends with this status, or with that of a failed output.
-fn say_last<R: Rig>(rig: &mut R, line: &[u8], status: u8) -> Status
-    ensures status { OneOf result.0 (status ∷ 9 ∷ []) }
-    ensures said { result.0 ≢ 9 → Appends (R.said rig.old) (R.said rig.new) line.now }
-    ensures front { SaysFront (R.said rig.old) (R.said rig.new) line.now }
-    ensures voice { result.0 ≡ 9 → status ≢ 9 → Rose (R.faults rig.old VOICE) (R.faults rig.new VOICE) }
-    ensures slots { (slot : ℕ) → slot ≢ VOICE → R.faults rig.new slot ≡ R.faults rig.old slot }
-{
-    match rig.say(line) {
-        Ok(()) => Status(status),
-        Err(_) => Status(9),
+    if profile.as_str() == "-" {
+        Request::ShowInput
+    } else {
+        Request::Show(profile.as_str())
     }
 }

@@ -1,10 +1,12 @@
 //! A script is read whole, and answered line by line.
 ghost use Rattle.std.specs.Prelude.{◌≡◌, ◌≢◌, ◌≤◌, ℕ, [], ◌∷◌, length, map, false, IfOk, OnOk, OnErr, Err};
 ghost use Rattle.std.specs.Io.KnownBytes.{Appends};
+ghost use Rattle.ec_model.specs.Objects.{Objects as ObjectMap};
 ghost use Rattle.rig_disk.specs.Faults.{Rose};
 ghost use Rattle.rig_disk.specs.Said.{SaysFront};
 ghost use Rattle.pool_run.specs.Lines.{is_kept, kept_lines};
 ghost use Rattle.pool_run.specs.Replies.{shown, reply_of, objects_after, reply_text, is_done};
+ghost use Rattle.pool_run.specs.Stored.{AreStored};
 ghost use Rattle.pool_run.specs.Script.{IsRun, ReadsAll, HadMore};
 ghost use Rattle.pool_run.specs.Texts.{OneOf, max_input};
 
@@ -13,6 +15,7 @@ use crate::line::{LineFault, read_line};
 use crate::objects::Objects;
 use crate::program::Status;
 use crate::reply::{Reply, print_reply};
+use ec_code::Code;
 use ec_words::NoMemory;
 use rig_disk::{Rig, Source, VOICE};
 use std::alloc::Global;
@@ -59,8 +62,16 @@ enum Stop {
     NoMemory,
 }
 
-/// Answers each line of a script, from no objects.
-pub fn run_script<R: Rig>(alloc: Global, script: &[u8], rig: &mut R) -> Status
+/// Answers each line of a script, from no objects, which are kept by this code with chunks of `unit` bytes.
+pub fn run_script<R: Rig>(
+    alloc: Global,
+    script: &[u8],
+    code: &dyn Code,
+    unit: usize,
+    rig: &mut R,
+) -> Status
+    requires some { 1 ≤ unit }
+    requires few { unit ≤ 65536 }
     ensures statuses { OneOf result.0 (0 ∷ 1 ∷ 9 ∷ 13 ∷ []) }
     ensures run { IsRun script.now result.0 (R.said rig.old) (R.said rig.new) }
     ensures quiet { OneOf result.0 (0 ∷ 1 ∷ []) → R.faults rig.new VOICE ≡ R.faults rig.old VOICE }
@@ -73,7 +84,7 @@ pub fn run_script<R: Rig>(alloc: Global, script: &[u8], rig: &mut R) -> Status
     let mut objects = Objects::new(alloc);
     let mut all_done = true;
     for line in &lines {
-        match run_line(alloc, line, &mut objects, rig) {
+        match run_line(alloc, line, code, unit, &mut objects, rig) {
             Ok(done) => all_done = all_done && done,
             Err(Stop::Voice) => return Status(9),
             Err(Stop::NoMemory) => return Status(13),
@@ -106,20 +117,27 @@ fn is_kept(line: &[u8]) -> bool
 fn run_line<R: Rig>(
     alloc: Global,
     text: &[u8],
+    code: &dyn Code,
+    unit: usize,
     objects: &mut Objects,
     rig: &mut R,
 ) -> Result<bool, Stop>
-    ensures done { IfOk result (λ done. done ≡ is_done (reply_of objects.old text.now)) }
-    ensures after { OnOk result (objects.new ≡ objects_after objects.old text.now) }
-    ensures said { OnOk result
-        (Appends (R.said rig.old) (R.said rig.new) (reply_text (reply_of objects.old text.now))) }
+    requires some { 1 ≤ unit }
+    requires few { unit ≤ 65536 }
+    requires stored { (all : ObjectMap) × AreStored (meaning code.now) unit all objects.old }
+    ensures done { IfOk result (λ done. (all : ObjectMap) → AreStored (meaning code.now) unit all objects.old
+        → done ≡ is_done (reply_of all text.now)) }
+    ensures after { OnOk result ((all : ObjectMap) → AreStored (meaning code.now) unit all objects.old
+        → AreStored (meaning code.now) unit (objects_after all text.now) objects.new) }
+    ensures said { OnOk result ((all : ObjectMap) → AreStored (meaning code.now) unit all objects.old
+        → Appends (R.said rig.old) (R.said rig.new) (reply_text (reply_of all text.now))) }
     ensures quiet { OnOk result (R.faults rig.new VOICE ≡ R.faults rig.old VOICE) }
-    ensures front { OnErr result
-        (SaysFront (R.said rig.old) (R.said rig.new) (reply_text (reply_of objects.old text.now))) }
+    ensures front { OnErr result ((all : ObjectMap) → AreStored (meaning code.now) unit all objects.old
+        → SaysFront (R.said rig.old) (R.said rig.new) (reply_text (reply_of all text.now))) }
     ensures voice { result ≡ Err Stop.Voice → Rose (R.faults rig.old VOICE) (R.faults rig.new VOICE) }
     ensures slots { (slot : ℕ) → slot ≢ VOICE → R.faults rig.new slot ≡ R.faults rig.old slot }
 {
-    let Ok(reply) = answer(alloc, text, objects) else {
+    let Ok(reply) = answer(alloc, text, code, unit, objects) else {
         return Err(Stop::NoMemory);
     };
     let Ok(line) = print_reply(alloc, &reply) else {
@@ -132,13 +150,24 @@ fn run_line<R: Rig>(
 }
 
 // The reply to one line, whose effect is done. After an `Err` nothing has changed.
-fn answer(alloc: Global, text: &[u8], objects: &mut Objects) -> Result<Reply, NoMemory>
-    ensures reply { IfOk result (λ reply. shown reply ≡ reply_of objects.old text.now) }
-    ensures after { OnOk result (objects.new ≡ objects_after objects.old text.now) }
+fn answer(
+    alloc: Global,
+    text: &[u8],
+    code: &dyn Code,
+    unit: usize,
+    objects: &mut Objects,
+) -> Result<Reply, NoMemory>
+    requires some { 1 ≤ unit }
+    requires few { unit ≤ 65536 }
+    requires stored { (all : ObjectMap) × AreStored (meaning code.now) unit all objects.old }
+    ensures reply { IfOk result (λ reply. (all : ObjectMap) → AreStored (meaning code.now) unit all objects.old
+        → shown reply ≡ reply_of all text.now) }
+    ensures after { OnOk result ((all : ObjectMap) → AreStored (meaning code.now) unit all objects.old
+        → AreStored (meaning code.now) unit (objects_after all text.now) objects.new) }
     ensures unchanged { OnErr result (objects.new ≡ objects.old) }
 {
     match read_line(alloc, text) {
-        Ok(line) => objects.apply(line),
+        Ok(line) => objects.apply(line, code, unit),
         Err(LineFault::Bad) => Ok(Reply::Bad),
         Err(LineFault::NoMemory) => Err(NoMemory),
     }

@@ -4,11 +4,5 @@
 pub const USAGE: &[u8] =
     b"usage: ecpool try PROFILE, create DIR PROFILE, run DIR [depth=N], profile PROFILE, mill DIR SEED COUNT\n";
 
-/// Said where the profile is not served yet, with status 3.
-pub const UNBUILT: &[u8] = b"profile 0 Unbuilt\n";
-
 /// Said where the input is longer than its limit, with status 12.
 pub const TOO_LONG: &[u8] = b"too long\n";
-
-/// The only profile that is served so far.
-pub const PROFILE: &str = "plugin=jerasure,k=2,m=1";

@@ -46,7 +46,12 @@ fn example_13_a_failing_output_ends_with_9(rt: HostRuntime) -> Result<(), Fail> 
         );
         assert_eq!(rt; rig.said(), said, "at {call}");
     }
-    let words: [&[&str]; 2] = [&["try", "plugin=lrc"], &[]];
+    let words: [&[&str]; 4] = [
+        &["try", "plugin=clay"],
+        &["profile", "k=2,m=1"],
+        &["profile", "k=2"],
+        &[],
+    ];
     for words in words {
         let mut rig = MemRig::new(alloc)?;
         rig.fail_at(VOICE, 1)?;

@@ -6,6 +6,8 @@ mod faults;
 #[cfg(test)]
 mod limits;
 #[cfg(test)]
+mod profiles;
+#[cfg(test)]
 mod replies;
 #[cfg(test)]
 mod run;

@@ -54,22 +54,20 @@ fn examples_1_to_6_scripts_and_their_replies(rt: HostRuntime) -> Result<(), Fail
 }
 
 #[test]
-fn examples_7_and_8_words_that_are_not_served(rt: HostRuntime) -> Result<(), Fail> {
+fn examples_7_and_8_profiles_and_words_that_are_refused(rt: HostRuntime) -> Result<(), Fail> {
     let alloc = rt.alloc();
-    let rows: [(&[&str], &[u8], u8); 8] = [
+    let rows: [(&[&str], &[u8], u8); 10] = [
         // 7
-        (&["try", "plugin=lrc"], b"profile 0 Unbuilt\n", 3),
-        (
-            &["try", "plugin=jerasure,k=2,m=1 "],
-            b"profile 0 Unbuilt\n",
-            3,
-        ),
-        (&["try", "-"], b"profile 0 Unbuilt\n", 3),
+        (&["try", "plugin=clay"], b"profile 1 UnknownPlugin\n", 3),
+        (&["try", "k=2"], b"profile 4 Missing m\n", 3),
+        (&["try", "-"], b"profile 18 Setting\n", 3),
         // 8
         (&[], USAGE, 2),
         (&["try"], USAGE, 2),
         (&["try", "plugin=jerasure,k=2,m=1", "more"], USAGE, 2),
         (&["run", "pool"], USAGE, 2),
+        (&["profile"], USAGE, 2),
+        (&["Profile", "k=2,m=1"], USAGE, 2),
         (&["--help"], USAGE, 2),
     ];
     for (words, said, status) in rows {

@@ -1,8 +1,10 @@
 //! A run of `ecpool` in memory.
 
-use ec_words::Bytes;
-use pool_run::ecpool;
+use ec_code::Code;
+use ec_words::{Bytes, NoMemory};
+use pool_run::{Status, ecpool};
 use rig_disk::{MemRig, MemSource};
+use rs_van::RsVan;
 use std::alloc::{AllocError, Global};
 use std::test::Fail;
 
@@ -17,12 +19,29 @@ pub fn status_of(
     fail: Option<u64>,
     rig: &mut MemRig,
 ) -> Result<u8, Fail> {
+    let list = texts(alloc, words)?;
+    let mut source = MemSource::new(Bytes::from_slice(alloc, input)?, fail);
+    Ok(answered(alloc, &list, rig, &mut source)?.0)
+}
+
+// Makes the boxes, as the program does, and calls.
+fn answered(
+    alloc: Global,
+    words: &[String],
+    rig: &mut MemRig,
+    source: &mut MemSource,
+) -> Result<Status, NoMemory> {
+    let mut codes: Vec<Box<dyn Code>> = Vec::new(alloc);
+    codes.push(Box::new(alloc, RsVan::new())?)?;
+    Ok(ecpool(alloc, words, &mut codes, rig, source))
+}
+
+fn texts(alloc: Global, words: &[&str]) -> Result<Vec<String>, AllocError> {
     let mut list = Vec::new(alloc);
     for word in words {
         list.push(String::from_str(alloc, word)?)?;
     }
-    let mut source = MemSource::new(Bytes::from_slice(alloc, input)?, fail);
-    Ok(ecpool(alloc, &list, rig, &mut source).0)
+    Ok(list)
 }
 
 /// An input of this many bytes: these lines, and then the byte again and again.

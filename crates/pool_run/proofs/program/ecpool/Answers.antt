@@ -1,4 +1,80 @@
+use Rattle.std.proofs.Common.{List, ℕ, inr, sym, subst, ◌∙◌, arith}
+use Rattle.pool_run.specs.Profiles.{GivesProfile, IsRefused, SaysFault}
+use Rattle.pool_run.proofs.StatusLemmas.{completed, long_script, not_2}
+use Rattle.pool_run.proofs.RequestLemmas.{same_try, wrong_for, try_for, show_for, input_for}
 use Rattle.pool_run.proofs.program.ecpool.Goals as goal
 
+pub returns-in-Wrong-clause-headline : goal.returns-in-Wrong-clause-headline
+returns-in-Wrong-clause-headline g c = λ profile script p ask gives told. absurd ((c.in-Wrong.ensures profile).0 ask)
+
+pub returns-in-Wrong-clause-complete : goal.returns-in-Wrong-clause-complete
+returns-in-Wrong-clause-complete g c = λ profile script p ask gives told quiet voice. absurd ((c.in-Wrong.ensures profile).0 ask)
+
+pub returns-in-Wrong-clause-shown : goal.returns-in-Wrong-clause-shown
+returns-in-Wrong-clause-shown g c = λ profile p asks gives. absurd (wrong_for c.args.words.now _ profile c.in-Wrong.ensures (inr asks))
+
+pub returns-in-Wrong-clause-refused : goal.returns-in-Wrong-clause-refused
+returns-in-Wrong-clause-refused g c = λ profile f asks is. absurd (wrong_for c.args.words.now _ profile c.in-Wrong.ensures asks)
+
+pub returns-in-Wrong-clause-status_12 : goal.returns-in-Wrong-clause-status_12
+returns-in-Wrong-clause-status_12 g c = λ profile script p ask gives told. absurd ((c.in-Wrong.ensures profile).0 ask)
+
+pub returns-in-Wrong-clause-long_profile : goal.returns-in-Wrong-clause-long_profile
+returns-in-Wrong-clause-long_profile g c = λ input ask told. absurd ((c.in-Wrong.ensures _).1 ask)
+
 pub returns-in-Try-clause-headline : goal.returns-in-Try-clause-headline
-returns-in-Try-clause-headline g c = λ script ask told. c.try_script.ensures.script script told
+returns-in-Try-clause-headline g c = λ profile script p ask gives told.
+    let same = c.as_bytes.ensures.value ∙ same_try c.args.words.now _ profile c.in-Try.ensures ask in
+    c.try_profile.ensures.script p script (subst (λ (t : List ℕ). GivesProfile t p) (sym same) gives) told
+
+pub returns-in-Try-clause-complete : goal.returns-in-Try-clause-complete
+returns-in-Try-clause-complete g c = λ profile script p ask gives told quiet voice.
+    let same = c.as_bytes.ensures.value ∙ same_try c.args.words.now _ profile c.in-Try.ensures ask in
+    let given = subst (λ (t : List ℕ). GivesProfile t p) (sym same) gives in
+    completed script c.try_profile.result.0 _ _ _ (c.try_profile.ensures.script p script given told) (c.try_profile.ensures.accepted p given)
+    (λ e. quiet (c.try_profile.ensures.source e)) (λ e. voice (c.try_profile.ensures.voice e))
+
+pub returns-in-Try-clause-refused : goal.returns-in-Try-clause-refused
+returns-in-Try-clause-refused g c = λ profile f asks is.
+    let same = c.as_bytes.ensures.value ∙ try_for c.args.words.now _ _ profile c.in-Try.ensures asks in
+    subst (λ (t : List ℕ). SaysFault t c.try_profile.result.0 (g.R.Rig.said c.args.rig.now) (g.R.Rig.said c.try_profile.new.rig)) same
+    (c.try_profile.ensures.refused f (subst (λ (t : List ℕ). IsRefused t f) (sym same) is))
+
+pub returns-in-Try-clause-status_2 : goal.returns-in-Try-clause-status_2
+returns-in-Try-clause-status_2 g c =
+    not_2 _ c.try_profile.result.0 _ _ (λ wrong. (wrong _).0 c.in-Try.ensures) (λ e. grind (arith, e, c.try_profile.ensures.statuses))
+
+pub returns-in-Try-clause-status_12 : goal.returns-in-Try-clause-status_12
+returns-in-Try-clause-status_12 g c = λ profile script p ask gives told.
+    let same = c.as_bytes.ensures.value ∙ same_try c.args.words.now _ profile c.in-Try.ensures ask in
+    let given = subst (λ (t : List ℕ). GivesProfile t p) (sym same) gives in
+    long_script script c.try_profile.result.0 _ _ _ (c.try_profile.ensures.script p script given told) (c.try_profile.ensures.accepted p given)
+
+pub returns-in-Show-clause-shown : goal.returns-in-Show-clause-shown
+returns-in-Show-clause-shown g c = λ profile p asks gives.
+    let same = c.as_bytes-in-Show.ensures.value ∙ show_for c.args.words.now _ _ profile c.in-Show.ensures.0 c.in-Show.ensures.1 (inr asks) in
+    c.show_profile.ensures.shown p (subst (λ (t : List ℕ). GivesProfile t p) (sym same) gives)
+
+pub returns-in-Show-clause-refused : goal.returns-in-Show-clause-refused
+returns-in-Show-clause-refused g c = λ profile f asks is.
+    let same = c.as_bytes-in-Show.ensures.value ∙ show_for c.args.words.now _ _ profile c.in-Show.ensures.0 c.in-Show.ensures.1 asks in
+    subst (λ (t : List ℕ). SaysFault t c.show_profile.result.0 (g.R.Rig.said c.args.rig.now) (g.R.Rig.said c.show_profile.new.rig)) same
+    (c.show_profile.ensures.refused f (subst (λ (t : List ℕ). IsRefused t f) (sym same) is))
+
+pub returns-in-Show-clause-status_2 : goal.returns-in-Show-clause-status_2
+returns-in-Show-clause-status_2 g c =
+    not_2 _ c.show_profile.result.0 _ _ (λ wrong. (wrong _).1 c.in-Show.ensures.0) (λ e. grind (arith, e, c.show_profile.ensures.statuses))
+
+pub returns-in-ShowInput-clause-shown : goal.returns-in-ShowInput-clause-shown
+returns-in-ShowInput-clause-shown g c = λ profile p asks gives.
+    let told = input_for c.args.words.now _ profile c.in-ShowInput.ensures (inr asks) in
+    c.show_input.ensures.shown profile p told.0 told.1 gives
+
+pub returns-in-ShowInput-clause-refused : goal.returns-in-ShowInput-clause-refused
+returns-in-ShowInput-clause-refused g c = λ profile f asks is.
+    let told = input_for c.args.words.now _ profile c.in-ShowInput.ensures asks in
+    c.show_input.ensures.refused profile f told.0 told.1 is
+
+pub returns-in-ShowInput-clause-status_2 : goal.returns-in-ShowInput-clause-status_2
+returns-in-ShowInput-clause-status_2 g c =
+    not_2 _ c.show_input.result.0 _ _ (λ wrong. (wrong _).1 c.in-ShowInput.ensures) (λ e. grind (arith, e, c.show_input.ensures.statuses))

@@ -1,7 +1,7 @@
 use Rattle.std.proofs.Common.{List, ℕ, Err, inl, inr, refl, ap, subst}
 use Rattle.pool_run.specs.Script.{IsRun}
 use Rattle.pool_run.proofs.StatusLemmas.{answered, nothing_said, too_long_said}
-use Rattle.pool_run.proofs.program.try_script.Goals as goal
+use Rattle.pool_run.proofs.commands.try_script.Goals as goal
 
 pub returns-in-Ok-clause-script : goal.returns-in-Ok-clause-script
 returns-in-Ok-clause-script g c = λ script told.

@@ -1,0 +1,20 @@
+use Rattle.std.proofs.Common.{List, ℕ, sym, ◌∙◌, subst}
+use Rattle.pool_run.specs.Profiles.{GivesProfile, IsRefused, SaysFault}
+use Rattle.pool_run.proofs.StatusLemmas.{all_taken}
+use Rattle.pool_run.proofs.commands.show_input.Goals as goal
+
+pub returns-in-Ok-clause-shown : goal.returns-in-Ok-clause-shown
+returns-in-Ok-clause-shown g c = λ text p told within gives.
+    let same = c.deref.ensures.value ∙ all_taken _ _ text c.in-Ok.text.items told c.in-Ok.ensures.whole in
+    c.show_profile.ensures.shown p (subst (λ (t : List ℕ). GivesProfile t p) (sym same) gives)
+
+pub returns-in-Ok-clause-refused : goal.returns-in-Ok-clause-refused
+returns-in-Ok-clause-refused g c = λ text f told within is.
+    let same = c.deref.ensures.value ∙ all_taken _ _ text c.in-Ok.text.items told c.in-Ok.ensures.whole in
+    subst (λ (t : List ℕ). SaysFault t c.show_profile.result.0 (g.R.Rig.said c.args.rig.now) (g.R.Rig.said c.show_profile.new.rig)) same
+    (c.show_profile.ensures.refused f (subst (λ (t : List ℕ). IsRefused t f) (sym same) is))
+
+pub returns-in-Ok-clause-status_3 : goal.returns-in-Ok-clause-status_3
+returns-in-Ok-clause-status_3 g c = λ e.
+    let found = c.show_profile.ensures.status_3 e in
+    (c.in-Ok.text.items, found.0, subst (λ (t : List ℕ). IsRefused t found.0) c.deref.ensures.value found.1, c.in-Ok.ensures.whole)

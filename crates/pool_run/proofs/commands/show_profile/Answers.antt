@@ -1,0 +1,5 @@
+use Rattle.std.proofs.Common.{Err, ap}
+use Rattle.pool_run.proofs.commands.show_profile.Goals as goal
+
+pub returns-in-Err-Profile-clause-refused : goal.returns-in-Err-Profile-clause-refused
+returns-in-Err-Profile-clause-refused g c = λ f is. c.refuse.ensures.refused c.args.text.now (c.in-Err-Profile.ensures.refused c.in-Err-Profile.fault (ap Err c.in-Err-Profile.field-0-is))

@@ -1,0 +1,20 @@
+use Rattle.std.proofs.Common.{◌≡◌, Result, Ok, Err, IfOk, ap, sym, ◌∙◌, subst}
+use Rattle.ec_code.specs.declared.profile.Profile.{Profile}
+use Rattle.ec_code.specs.declared.fault.ProfileFault.{ProfileFault}
+use Rattle.ec_code.proofs.GivenLemmas.{of_no_text}
+use Rattle.plugin_reg.proofs.CallerLemmas.{same_fault}
+use Rattle.pool_run.proofs.ProfileLemmas.{text_read, not_utf8}
+use Rattle.pool_run.proofs.profiles.read_bytes.Goals as goal
+
+pub returns-in-Ok-clause-value : goal.returns-in-Ok-clause-value
+returns-in-Ok-clause-value c =
+    let same = text_read c.args.bytes.now c.in-Ok.text.now c.in-Ok.ensures.cases.0 c.in-Ok.ensures.cases.1 in
+    subst (λ (read : Result Profile ProfileFault). IfOk c.read_profile.result (λ profile. read ≡ Ok profile)) (sym same) c.read_profile.ensures.value
+
+pub returns-in-Ok-clause-refused : goal.returns-in-Ok-clause-refused
+returns-in-Ok-clause-refused c = λ fault e.
+    text_read c.args.bytes.now c.in-Ok.text.now c.in-Ok.ensures.cases.0 c.in-Ok.ensures.cases.1 ∙ c.read_profile.ensures.refused fault e
+
+pub returns-in-Err-clause-refused : goal.returns-in-Err-clause-refused
+returns-in-Err-clause-refused c = λ fault e.
+    of_no_text c.args.bytes.now (not_utf8 c.args.bytes.now c.in-Err.ensures.cases.0) ∙ ap Err (same_fault _ fault e)
