@@ -1,6 +1,6 @@
 -- The profile that the canonical lines of an accepted one are read as is accepted too, and means the same code.
-use Rattle.std.proofs.Common.{◌≡◌, ◌⊎◌, ℕ, ◌+◌, ◌-◌, ◌<◌, ◌≤◌, Some, None, refl, sym, subst, arith, inl, inr}
-use Rattle.std.specs.Prelude.{⊤}
+use Rattle.std.proofs.Common.{◌≡◌, ◌⊎◌, ℕ, ◌+◌, ◌-◌, ◌<◌, ◌≤◌, Some, None, refl, ap, sym, subst, arith, inl, inr}
+use Rattle.std.specs.Prelude.{⊤, length, codes}
 use Rattle.std.specs.declared.option.Option.{Option}
 use Rattle.ec_model.specs.Codes.{CodeRows}
 use Rattle.ec_model.specs.ReedSolVan.{IsReedSolVan}
@@ -11,6 +11,7 @@ use Rattle.ec_code.specs.declared.profile.Profile.{Profile}
 use Rattle.ec_code.specs.declared.fault.ProfileFault.{ProfileFault}
 use Rattle.ec_code.specs.declared.fault.ProfileFault.TheVariants as fault
 use Rattle.ec_code.specs.declared.fault.Key.TheVariants as key
+use Rattle.ec_code.specs.Profiles.{name_of}
 use Rattle.ec_code.specs.Readings.{jerasure_profile}
 use Rattle.ec_code.specs.Refusals.{HasJerasureFault, HasFaultOf, IsPluginsCode, IsUnit, IsAccepted, IsCodeOf}
 use Rattle.ec_code.specs.Shapes.{default_least}
@@ -115,15 +116,15 @@ again_by p code k m least ok one two rows is =
       code_of = subst (λ (y : ℕ). IsReedSolVan code.k y code) coding (subst (λ (x : ℕ). IsReedSolVan x m code) data_chunks rows);
     }
 
-again_of : (q : Plugin) (p : Profile) (code : CodeRows) (least : ℕ) → ((f : ProfileFault) → HasFaultOf q p f → ⊥) → IsPluginsCode q p code
+again_of : (q : Plugin) (p : Profile) (code : CodeRows) (least : ℕ) → name_of q ≡ codes "jerasure" → ((f : ProfileFault) → HasFaultOf q p f → ⊥) → IsPluginsCode q p code
     → IsLeastOf p.min_size code.k code.n least → IsAgain code least p.stripe_unit
-again_of plugin.Jerasure p code least ok is l = again_by p code is.0 is.2.0 least ok is.1 is.2.1 is.2.2 l
-again_of plugin.Lrc p code least ok is l = absurd is
-again_of plugin.Shec p code least ok is l = absurd is
+again_of plugin.Jerasure p code least name ok is l = again_by p code is.0 is.2.0 least ok is.1 is.2.1 is.2.2 l
+again_of plugin.Lrc p code least name ok is l = absurd (omega (arith, ap length name))
+again_of plugin.Shec p code least name ok is l = absurd (omega (arith, ap length name))
 
-pub read_again : (p : Profile) (code : CodeRows) (least : ℕ) → IsAccepted p → IsCodeOf p code → IsLeastOf p.min_size code.k code.n least
+pub read_again : (p : Profile) (code : CodeRows) (least : ℕ) → name_of p.plugin ≡ codes "jerasure" → IsAccepted p → IsCodeOf p code → IsLeastOf p.min_size code.k code.n least
     → IsAgain code least p.stripe_unit
-read_again p code least ok is l = again_of p.plugin p code least ok is l
+read_again p code least name ok is l = again_of p.plugin p code least name ok is l
 
 pub accepted_again : (code : CodeRows) (least unit : ℕ) → IsAgain code least unit
     → IsAccepted (jerasure_profile code.k (code.n - code.k) least unit) × IsCodeOf (jerasure_profile code.k (code.n - code.k) least unit) code

@@ -11,6 +11,7 @@ use Rattle.ec_code.specs.declared.fault.ProfileFault.TheVariants as fault
 use Rattle.ec_code.specs.Profiles.{name_of}
 use Rattle.ec_code.specs.Settings.{Setting, has_settings, settings_of, value_of}
 use Rattle.ec_code.specs.Readings.{profile_of, profile_of_bytes, profile_of_plugin, plugin_of, refused_by, unknown_key, bad_key, profile_with, value_or}
+use Rattle.ec_code.specs.LrcFaults.{has_number, HasFaultBy}
 use Rattle.ec_code.specs.Refusals.{fault_order, HasFault, HasFaultOf, IsFirst, IsUnit, IsRefusedBy, IsAccepted}
 
 first_is_there : (has : ProfileFault → Type 0) (order : List ProfileFault) (f : ProfileFault) → IsFirst has order f → has f
@@ -34,10 +35,14 @@ unit_or_not u double = (
   elim (sides 65536 u) [ inl less ↦ absurd (double (λ is. omega (arith, less, is.1))) | inr more ↦ more ],
 )
 
+unit_of_lrc : (numbers : Bool) (p : Profile) → ((f : ProfileFault) → HasFaultBy numbers p f → ⊥) → (1 ≤ p.stripe_unit) × (p.stripe_unit ≤ 65536)
+unit_of_lrc true p ok = unit_or_not p.stripe_unit (ok fault.Unit)
+unit_of_lrc false p ok = unit_or_not p.stripe_unit (ok fault.Unit)
+
 unit_of_plugin : (q : Plugin) (p : Profile) → ((f : ProfileFault) → HasFaultOf q p f → ⊥) → (1 ≤ p.stripe_unit) × (p.stripe_unit ≤ 65536)
 unit_of_plugin plugin.Jerasure p ok = unit_or_not p.stripe_unit (ok fault.Unit)
-unit_of_plugin plugin.Lrc p ok = absurd (ok fault.UnknownPlugin refl)
-unit_of_plugin plugin.Shec p ok = absurd (ok fault.UnknownPlugin refl)
+unit_of_plugin plugin.Lrc p ok = unit_of_lrc (has_number p) p ok
+unit_of_plugin plugin.Shec p ok = unit_or_not p.stripe_unit (ok fault.Unit)
 
 -- the unit of an accepted profile
 pub accepted_unit : (p : Profile) → IsAccepted p → (1 ≤ p.stripe_unit) × (p.stripe_unit ≤ 65536)

@@ -10,6 +10,8 @@ use Rattle.ec_code.specs.declared.profile.Profile.{Profile}
 use Rattle.ec_code.specs.declared.fault.ProfileFault.{ProfileFault}
 use Rattle.ec_code.specs.declared.fault.ProfileFault.TheVariants as fault
 use Rattle.ec_code.specs.Profiles.{name_of}
+use Rattle.ec_code.proofs.LayoutLemmas.{lrc_coding}
+use Rattle.ec_code.proofs.ShecLemmas.{shec_coding}
 use Rattle.ec_code.specs.Refusals.{fault_order, HasFaultOf, HasJerasureFault, IsFirst, IsUnit, Given, IsRefusedBy, IsPluginsCode, IsCodeOf, IsAccepted, KeepsPromise}
 
 abbrev IsGiven : Option ℕ → Type 0
@@ -21,7 +23,8 @@ given s value e n = subst IsGiven (sym e ∙ n) tt
 
 -- the faults past the missing keys
 abbrev late_faults : List ProfileFault
-late_faults = fault.Technique ∷ fault.Width ∷ fault.SmallK ∷ fault.SmallM ∷ fault.TooMany ∷ fault.Unit ∷ fault.MinSize ∷ []
+late_faults = fault.Technique ∷ fault.Width ∷ fault.SmallK ∷ fault.SmallM ∷ fault.TooMany ∷ fault.Divides ∷ fault.LayerLength ∷ fault.LayerInput
+    ∷ fault.LayerOutput ∷ fault.Unit ∷ fault.MinSize ∷ fault.Order ∷ []
 
 -- what is known of a profile whose k and m are given
 pub record HasNumbers (p : Profile) (k m : ℕ) : Type 0 where
@@ -32,7 +35,7 @@ pub record HasNumbers (p : Profile) (k m : ℕ) : Type 0 where
 refused : (p : Profile) (f : ProfileFault) (k m : ℕ) → HasNumbers p k m → IsFirst (HasJerasureFault p) late_faults f → IsRefusedBy p f
 refused p f k m h late =
     let P : Plugin → Type 0 = λ q. IsFirst (HasFaultOf q p) fault_order f in
-    subst P (sym h.of_jerasure) (inr (λ x. x, inr (given p.k k h.first, inr (given p.m m h.second, late))))
+    subst P (sym h.of_jerasure) (inr (λ x. x, inr (λ x. x, inr (given p.k k h.first, inr (λ x. x, inr (λ x. x, inr (given p.m m h.second, inr (λ x. x, inr (λ x. x, late)))))))))
 
 -- nothing is wrong with the first settings
 pub record PassesSettings (p : Profile) : Type 0 where
@@ -70,19 +73,25 @@ small_m_first p k m h s lk lt = refused p fault.SmallM k m h (inr (s.technique, 
 
 -- what is left to say of a profile whose k and m are at least 2 and 1
 after_small : (p : Profile) (f : ProfileFault) (k m : ℕ) → HasNumbers p k m → PassesSettings p → 2 ≤ k → 1 ≤ m
-    → IsFirst (HasJerasureFault p) (fault.TooMany ∷ fault.Unit ∷ fault.MinSize ∷ []) f → IsRefusedBy p f
+    → IsFirst (HasJerasureFault p) (fault.TooMany ∷ fault.Divides ∷ fault.LayerLength ∷ fault.LayerInput ∷ fault.LayerOutput ∷ fault.Unit ∷ fault.MinSize ∷ fault.Order ∷ []) f
+    → IsRefusedBy p f
 after_small p f k m h s lk lm is = refused p f k m h (inr (s.technique, inr (s.width, inr (not_small_k p k m h lk, inr (not_small_m p k m h lm, is)))))
 
 pub too_many_first : (p : Profile) (k m : ℕ) → HasNumbers p k m → PassesSettings p → 2 ≤ k → 1 ≤ m → 16 < k + m → IsRefusedBy p fault.TooMany
 too_many_first p k m h s lk lm lt = after_small p fault.TooMany k m h s lk lm (inl ((k, h.first, (m, h.second, lt)), refl))
 
+-- no fault of layers is one of jerasure
+past_layers : (p : Profile) (f : ProfileFault) → IsFirst (HasJerasureFault p) (fault.Unit ∷ fault.MinSize ∷ fault.Order ∷ []) f
+    → IsFirst (HasJerasureFault p) (fault.Divides ∷ fault.LayerLength ∷ fault.LayerInput ∷ fault.LayerOutput ∷ fault.Unit ∷ fault.MinSize ∷ fault.Order ∷ []) f
+past_layers p f is = inr (λ x. x, inr (λ x. x, inr (λ x. x, inr (λ x. x, is))))
+
 pub unit_first : (p : Profile) (k m : ℕ) → HasNumbers p k m → PassesSettings p → 2 ≤ k → 1 ≤ m → k + m ≤ 16 → (IsUnit p.stripe_unit → ⊥) → IsRefusedBy p fault.Unit
-unit_first p k m h s lk lm le u = after_small p fault.Unit k m h s lk lm (inr (not_too_many p k m h le, inl (u, refl)))
+unit_first p k m h s lk lm le u = after_small p fault.Unit k m h s lk lm (inr (not_too_many p k m h le, past_layers p fault.Unit (inl (u, refl))))
 
 pub min_size_first : (p : Profile) (k m : ℕ) → HasNumbers p k m → PassesSettings p → 2 ≤ k → 1 ≤ m → k + m ≤ 16 → IsUnit p.stripe_unit
     → Given p.min_size (λ least. (least < k) ⊎ (k + m < least)) → IsRefusedBy p fault.MinSize
 min_size_first p k m h s lk lm le u is =
-    after_small p fault.MinSize k m h s lk lm (inr (not_too_many p k m h le, inr (λ no. no u, inl ((k, h.first, (m, h.second, is)), refl))))
+    after_small p fault.MinSize k m h s lk lm (inr (not_too_many p k m h le, past_layers p fault.MinSize (inr (λ no. no u, inl ((k, h.first, (m, h.second, is)), refl)))))
 
 abbrev IsNot : Bool → Type 0
 IsNot true = ⊥
@@ -111,8 +120,8 @@ coding_of plugin.Jerasure p code ok is = elim (none_or_some is.2.0) [
   | inl none ↦ absurd (ok fault.SmallM (is.2.0, is.2.1, none))
   | inr some ↦ omega (arith, some, is.2.2.data_chunks, is.2.2.positions)
 ]
-coding_of plugin.Lrc p code ok is = absurd is
-coding_of plugin.Shec p code ok is = absurd is
+coding_of plugin.Lrc p code ok is = lrc_coding p code ok is
+coding_of plugin.Shec p code ok is = shec_coding p code ok is
 
 -- the code of an accepted profile has a coding chunk
 pub some_coding : (p : Profile) (code : CodeRows) → IsAccepted p → IsCodeOf p code → code.k < code.n

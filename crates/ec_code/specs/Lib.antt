@@ -1,10 +1,13 @@
+pub mod Bounds
 pub mod Choosing
 pub mod Encoding
 pub mod Faults
+pub mod LrcFaults
 pub mod Mappings
 pub mod Profiles
 pub mod Readings
 pub mod Refusals
 pub mod Settings
 pub mod Shapes
+pub mod ShecFaults
 pub mod Tables

@@ -1,8 +1,10 @@
 -- Which profiles are refused, and the codes of the others. Source: this project, with Ceph's keys and bounds.
-use Rattle.std.specs.Prelude.{⊤, ◌≡◌, ◌≢◌, ◌⊎◌, ◌+◌, ◌%◌, ◌<◌, ◌≤◌, ℕ, List, [], ◌∷◌, Some, None}
-use Rattle.std.specs.declared.option.Option.{Option}
+use Rattle.std.specs.Prelude.{⊤, ◌≡◌, ◌≢◌, ◌⊎◌, ◌+◌, ◌<◌, List, [], ◌∷◌, None}
 use Rattle.ec_model.specs.Codes.{CodeRows, AnyKDecideAll}
 use Rattle.ec_model.specs.ReedSolVan.{IsReedSolVan}
+pub use Rattle.ec_code.specs.Bounds.{Given, IsUnit}
+use Rattle.ec_code.specs.LrcFaults.{HasLrcFault, IsLrcsCode}
+use Rattle.ec_code.specs.ShecFaults.{HasShecFault, IsShecsCode}
 use Rattle.ec_code.specs.declared.profile.Plugin.{Plugin}
 use Rattle.ec_code.specs.declared.profile.Plugin.TheVariants as plugin
 use Rattle.ec_code.specs.declared.profile.Technique.TheVariants as technique
@@ -13,16 +15,10 @@ use Rattle.ec_code.specs.declared.fault.Key.TheVariants as key
 
 -- the faults of a profile in the order in which they are answered; a missing key by the order of its bytes
 abbrev pub fault_order : List ProfileFault
-fault_order = fault.UnknownPlugin ∷ fault.Missing key.K ∷ fault.Missing key.M ∷ fault.Technique ∷ fault.Width ∷ fault.SmallK
-    ∷ fault.SmallM ∷ fault.TooMany ∷ fault.Unit ∷ fault.MinSize ∷ []
-
--- a setting that is given has this
-abbrev pub Given : {A : Type 0} → Option A → (A → Type 0) → Type 0
-Given {A} setting P = (value : A) × (setting ≡ Some value) × P value
-
--- bytes of a chunk in one stripe: a multiple of 32 up to 65,536
-abbrev pub IsUnit : ℕ → Type 0
-IsUnit unit = (32 ≤ unit) × (unit ≤ 65536) × (unit % 32 ≡ 0)
+fault_order = fault.UnknownPlugin ∷ fault.Missing key.C ∷ fault.Missing key.K ∷ fault.Missing key.L ∷ fault.Missing key.Layers
+    ∷ fault.Missing key.M ∷ fault.Missing key.Mapping ∷ fault.Missing key.Technique ∷ fault.Technique ∷ fault.Width ∷ fault.SmallK
+    ∷ fault.SmallM ∷ fault.TooMany ∷ fault.Divides ∷ fault.LayerLength ∷ fault.LayerInput ∷ fault.LayerOutput ∷ fault.Unit
+    ∷ fault.MinSize ∷ fault.Order ∷ []
 
 -- what is wrong with a profile of the plugin jerasure
 abbrev pub HasJerasureFault : Profile → ProfileFault → Type 0
@@ -37,10 +33,11 @@ HasJerasureFault p fault.Unit = IsUnit p.stripe_unit → ⊥
 HasJerasureFault p fault.MinSize = Given p.k (λ k. Given p.m (λ m. Given p.min_size (λ least. (least < k) ⊎ (k + m < least))))
 HasJerasureFault p _ = ⊥
 
--- what is wrong with a profile of a plugin; no profile of a plugin that isn't built yet is known
+-- what is wrong with a profile of a plugin
 abbrev pub HasFaultOf : Plugin → Profile → ProfileFault → Type 0
 HasFaultOf plugin.Jerasure p f = HasJerasureFault p f
-HasFaultOf _ p f = f ≡ fault.UnknownPlugin
+HasFaultOf plugin.Lrc p f = HasLrcFault p f
+HasFaultOf plugin.Shec p f = HasShecFault p f
 
 -- what is wrong with a profile
 abbrev pub HasFault : Profile → ProfileFault → Type 0
@@ -62,7 +59,8 @@ IsAccepted p = (f : ProfileFault) → HasFault p f → ⊥
 -- a code is that of a profile of a plugin
 abbrev pub IsPluginsCode : Plugin → Profile → CodeRows → Type 0
 IsPluginsCode plugin.Jerasure p code = Given p.k (λ k. Given p.m (λ m. IsReedSolVan k m code))
-IsPluginsCode _ p code = ⊥
+IsPluginsCode plugin.Lrc p code = IsLrcsCode p code
+IsPluginsCode plugin.Shec p code = IsShecsCode p code
 
 -- a code is that of a profile
 abbrev pub IsCodeOf : Profile → CodeRows → Type 0

@@ -90,6 +90,3 @@ fn masked(coefficients: &[u8; 16], from: Mask) -> [u8; 16]
     }
     kept
 }
-
-#[cfg(test)]
-mod tests;

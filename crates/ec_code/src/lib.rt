@@ -14,7 +14,6 @@ mod fault;
 mod mapping;
 mod profile;
 mod shape;
-mod table;
 
 pub use code::Code;
 pub use deciding::{combine, decides};
@@ -23,4 +22,3 @@ pub use fault::{Key, ProfileFault};
 pub use mapping::{Layer, Layers, Mapping};
 pub use profile::{Plugin, Profile, Technique};
 pub use shape::{Shape, default_min};
-pub use table::TableCode;

@@ -1,7 +1,9 @@
 pub mod Codes
 pub mod Field
 pub mod Laws
+pub mod Lrc
 pub mod Objects
 pub mod ReedSolVan
 pub mod Rows
+pub mod Shec
 pub mod Stripes

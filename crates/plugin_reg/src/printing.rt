@@ -1,7 +1,8 @@
 //! The text of a profile.
-ghost use Rattle.std.specs.Prelude.{◌≡◌, ◌-◌, ◌++◌, IfOk, OnOk};
+ghost use Rattle.std.specs.Prelude.{◌≡◌, ◌-◌, ◌++◌, IfOk, OnOk, codes};
 ghost use Rattle.std.specs.Fmt.{decimal};
 ghost use Rattle.ec_model.specs.Codes.{CodeRows};
+ghost use Rattle.ec_code.specs.Profiles.{name_of};
 ghost use Rattle.ec_code.specs.Refusals.{IsCodeOf, IsAccepted};
 ghost use Rattle.ec_code.specs.Shapes.{HasShape};
 ghost use Rattle.plugin_reg.specs.Canonical.{line_of, canonical_lines, PrintsAgain};
@@ -29,9 +30,10 @@ fn push_number(alloc: Global, list: &mut Vec<u8>, key: &str, value: u32) -> Resu
     push_text(list, key, digits.as_str())
 }
 
-/// The canonical lines of an accepted profile, with the shape of its code: `KEY=VALUE` and a line feed for each setting, by
+/// The canonical lines of an accepted profile of the plugin jerasure, with the shape of its code: `KEY=VALUE` and a line feed for each setting, by
 /// the bytes of the keys.
 pub fn print_profile(alloc: Global, profile: &Profile, shape: Shape) -> Result<Bytes, NoMemory>
+    requires jerasure { name_of profile.now.plugin ≡ codes "jerasure" }
     requires accepted { IsAccepted profile.now }
     requires shape { (code : CodeRows) × IsCodeOf profile.now code × HasShape code shape.k shape.n shape.lead }
     ensures value { IfOk result (λ text. text ≡ canonical_lines profile.now shape.k shape.n) }
@@ -41,8 +43,9 @@ pub fn print_profile(alloc: Global, profile: &Profile, shape: Shape) -> Result<B
     Ok(text)
 }
 
-// The lines of a profile of the plugin jerasure.
+// The lines, setting by setting.
 fn jerasure_lines(alloc: Global, profile: &Profile, shape: Shape) -> Result<Bytes, NoMemory>
+    requires jerasure { name_of profile.now.plugin ≡ codes "jerasure" }
     requires accepted { IsAccepted profile.now }
     requires shape { (code : CodeRows) × IsCodeOf profile.now code × HasShape code shape.k shape.n shape.lead }
     ensures { IfOk result (λ text. text ≡ canonical_lines profile.now shape.k shape.n) }

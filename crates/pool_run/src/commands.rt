@@ -3,6 +3,7 @@ ghost use Rattle.std.specs.Prelude.{◌≡◌, ◌≢◌, ◌<◌, ◌≤◌, �
 ghost use Rattle.std.specs.Io.KnownBytes.{Appends};
 ghost use Rattle.rig_disk.specs.Faults.{Rose};
 ghost use Rattle.rig_disk.specs.Said.{SaysFront};
+ghost use Rattle.ec_code.specs.Profiles.{name_of};
 ghost use Rattle.ec_code.specs.Refusals.{IsAccepted, IsCodeOf};
 ghost use Rattle.pool_run.specs.Headline.{IsAnswered};
 ghost use Rattle.pool_run.specs.Profiles.{GivesProfile, IsRefused, ShowsProfile, SaysFault, profile_text};
@@ -141,6 +142,7 @@ pub fn show_profile<R: Rig>(
 
 // Says the canonical lines of an accepted profile and the rows of its code.
 fn show_code<R: Rig>(alloc: Global, profile: &Profile, code: &dyn Code, rig: &mut R) -> Status
+    requires jerasure { name_of profile.now.plugin ≡ served_plugin }
     requires accepted { IsAccepted profile.now }
     requires made { IsCodeOf profile.now (meaning code.now) }
     ensures shown { ShowsProfile profile.now result.0 (R.said rig.old) (R.said rig.new) }

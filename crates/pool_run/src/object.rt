@@ -154,25 +154,30 @@ fn join_stripe(
 #[cfg(test)]
 mod tests {
     use super::*;
-    use ec_code::{Shape, TableCode};
+    use ec_code::{Plugin, Profile};
+    use rs_van::RsVan;
     use std::test::Fail;
 
-    // The rows of reed_sol_van with k=4 and m=2.
-    fn four_and_two() -> Option<TableCode> {
-        let mut rows = [[0u8; 16]; 16];
-        let mut places = [0u8; 16];
-        for j in 0..4u8 {
-            rows[j as usize][j as usize] = 1;
-            places[j as usize] = j;
-        }
-        rows[4] = [1, 1, 1, 1, 0, 0, 0, 0, 0, 0, 0, 0, 0, 0, 0, 0];
-        rows[5] = [1, 70, 143, 200, 0, 0, 0, 0, 0, 0, 0, 0, 0, 0, 0, 0];
-        let shape = Shape {
-            k: 4,
-            n: 6,
-            lead: 4,
+    // The code reed_sol_van with k=4 and m=2.
+    fn four_and_two() -> Option<RsVan> {
+        let profile = Profile {
+            plugin: Plugin::Jerasure,
+            k: Some(4),
+            m: Some(2),
+            c: None,
+            l: None,
+            w: None,
+            technique: None,
+            mapping: None,
+            layers: None,
+            stripe_unit: 32,
+            min_size: None,
         };
-        TableCode::of(shape, rows, places)
+        let mut code = RsVan::new();
+        match code.init(&profile) {
+            Ok(()) => Some(code),
+            Err(_) => None,
+        }
     }
 
     fn kept(

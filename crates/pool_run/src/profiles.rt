@@ -4,6 +4,7 @@ ghost use Rattle.std.specs.Fmt.{decimal};
 ghost use Rattle.std.specs.List.{range_with_len};
 ghost use Rattle.std.specs.Option.{option_map};
 ghost use Rattle.ec_model.specs.Rows.{entry_at};
+ghost use Rattle.ec_code.specs.Profiles.{name_of};
 ghost use Rattle.ec_code.specs.Readings.{profile_of_bytes};
 ghost use Rattle.ec_code.specs.Refusals.{IsAccepted, IsCodeOf};
 ghost use Rattle.pool_run.specs.Profiles.{GivesProfile, IsRefused, key_field, fault_line, row_line, rows_text, profile_text};
@@ -29,6 +30,7 @@ pub fn open_profile(
 ) -> Result<Opened, RegFault>
     requires { (i : ℕ) × (i < length codes.old) × ((d : _) → plugin_name (slice_index_or codes.old i d) ≡ served_plugin) }
     ensures gives { IfOk result (λ opened. GivesProfile text.now opened.profile) }
+    ensures served { IfOk result (λ opened. name_of opened.profile.plugin ≡ served_plugin) }
     ensures below { IfOk result (λ opened. opened.index < length codes.new) }
     ensures made { IfOk result (λ opened. (d : _) → IsCodeOf opened.profile (meaning (slice_index_or codes.new opened.index d))) }
     ensures refused { (fault : _) → result ≡ Err (RegFault.Profile fault) → IsRefused text.now fault }
@@ -90,6 +92,7 @@ fn push_key(list: &mut Vec<u8>, key: Option<&[u8]>) -> Result<(), NoMemory>
 
 /// What an accepted profile means: its canonical lines, and `row P HEX` for each position of its code.
 pub fn print_code(alloc: Global, profile: &Profile, code: &dyn Code) -> Result<Bytes, NoMemory>
+    requires jerasure { name_of profile.now.plugin ≡ served_plugin }
     requires accepted { IsAccepted profile.now }
     requires made { IsCodeOf profile.now (meaning code.now) }
     ensures { IfOk result (λ text. text ≡ profile_text profile.now (meaning code.now)) }

@@ -22,3 +22,7 @@ returns-in-Err-Profile-clause-refused g c = λ f is. c.refuse.ensures.refused c.
 
 pub returns-in-Err-NoMemory-clause-script : goal.returns-in-Err-NoMemory-clause-script
 returns-in-Err-NoMemory-clause-script g c = λ p script gives told. nothing_said script 13 _ _ (inr (inl refl))
+
+pub returns-in-Err-Profile-clause-accepted : goal.returns-in-Err-Profile-clause-accepted
+returns-in-Err-Profile-clause-accepted g c = λ p gives. absurd (given_not_refused c.args.text.now p c.in-Err-Profile.fault gives
+    (c.in-Err-Profile.ensures.refused c.in-Err-Profile.fault (ap Err c.in-Err-Profile.field-0-is)))

@@ -1,0 +1,13 @@
+//! Laws about the definitions of this crate.
+ghost use Rattle.lrc_layers.specs.Laws.{LayersHaveOneCode, ShortTextsAreKept, DataChunksAreCounted};
+
+/// A mapping and layers without a fault have one code.
+pub fn layers_have_one_code()
+    ensures { LayersHaveOneCode }
+{}
+
+/// What is kept of a mapping and of a layer tells their texts.
+pub fn texts_are_kept()
+    ensures short { ShortTextsAreKept }
+    ensures counted { DataChunksAreCounted }
+{}

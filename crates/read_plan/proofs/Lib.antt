@@ -1,0 +1,5 @@
+mod OrderLemmas
+mod SearchLemmas
+mod SetLemmas
+mod SettlingLemmas
+mod TableLemmas

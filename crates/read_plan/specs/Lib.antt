@@ -1,0 +1,4 @@
+pub mod Laws
+pub mod Planners
+pub mod Plans
+pub mod Settling

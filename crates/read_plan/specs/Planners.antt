@@ -1,0 +1,11 @@
+-- What a planner keeps. Source: this project.
+use Rattle.std.specs.Prelude.{⊤, ℕ}
+use Rattle.ec_model.specs.Codes.{CodeRows}
+
+-- what a planner keeps: how many answers it has room for
+pub record Kept : Type 0 where
+  pub entries : ℕ
+
+-- what is kept is right for a code; no answer is kept yet, so it always is
+abbrev pub FitsCode : Kept → CodeRows → Type 0
+FitsCode kept code = ⊤

@@ -1,0 +1,6 @@
+use Rattle.std.proofs.Common.{sym}
+use Rattle.shec_matrix.proofs.ShecRowLemmas.{place_at}
+use Rattle.shec_matrix.proofs.code.ShecCode.place.Goals as goal
+
+pub returns-clause-value : goal.returns-clause-value
+returns-clause-value c = sym (place_at c.args.self.now.k c.args.j c.requires)

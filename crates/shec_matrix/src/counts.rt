@@ -1,0 +1,126 @@
+//! What a profile of the plugin shec says of the code, and why it may be refused.
+ghost use Rattle.std.specs.Prelude.{◌≡◌, ◌≢◌, ◌↔◌, ◌+◌, ◌<◌, ◌≤◌, IsTrue, IsSome, IsNone, IsOk, IfSome, IfOk, IfErr, Some};
+ghost use Rattle.ec_code.specs.Refusals.{Given, IsUnit, IsRefusedBy, IsAccepted};
+ghost use Rattle.ec_code.specs.ShecFaults.{AreMany, IsOutside, AreUnordered};
+
+use ec_code::{Key, Plugin, Profile, ProfileFault, Technique};
+
+/// The numbers of data and of coding chunks, and of the coding chunks that each data chunk is in.
+#[derive(Clone, Copy, Debug, PartialEq, Eq)]
+pub struct Counts {
+    pub k: u8,
+    pub m: u8,
+    pub c: u8,
+    ghost some_data: { 1 ≤ k },
+    ghost some_coding: { 1 ≤ m },
+    ghost few: { k + m ≤ 16 },
+}
+
+fn is_other_technique(technique: Option<Technique>) -> bool
+    ensures { IsTrue result ↔ Given technique (λ t. t ≢ Technique.Single) }
+{
+    match technique {
+        Some(technique) => technique != Technique::Single,
+        None => false,
+    }
+}
+
+fn is_other_width(w: Option<u32>) -> bool
+    ensures { IsTrue result ↔ Given w (λ w. w ≢ 8) }
+{
+    match w {
+        Some(w) => w != 8,
+        None => false,
+    }
+}
+
+fn are_many(k: u32, m: u32) -> bool
+    ensures { IsTrue result ↔ AreMany k m }
+{
+    16 < u64::from(k) + u64::from(m) || 12 < k
+}
+
+fn is_unit(unit: u32) -> bool
+    ensures { IsTrue result ↔ IsUnit unit }
+{
+    32 <= unit && unit <= 65536 && unit % 32 == 0
+}
+
+/// Whether the least number of positions is below k or above all.
+fn is_out_of_range(least: Option<u32>, k: u32, m: u32) -> bool
+    requires { k + m ≤ 16 }
+    ensures { IsTrue result ↔ Given least (λ least. IsOutside k m least) }
+{
+    match least {
+        Some(least) => least < k || k + m < least,
+        None => false,
+    }
+}
+
+fn are_unordered(k: u32, m: u32, c: u32) -> bool
+    ensures { IsTrue result ↔ AreUnordered k m c }
+{
+    m < c || k < m
+}
+
+/// The first fault in the order, where k, m, c and the technique are given.
+fn fault_of(profile: &Profile, k: u32, m: u32, c: u32) -> Option<ProfileFault>
+    requires plugin { profile.now.plugin ≡ Plugin.Shec }
+    requires k { profile.now.k ≡ Some k }
+    requires m { profile.now.m ≡ Some m }
+    requires c { profile.now.c ≡ Some c }
+    requires technique { IsSome profile.now.technique }
+    ensures refused { IfSome result (IsRefusedBy profile.now) }
+    ensures accepted { IsNone result → IsAccepted profile.now }
+    ensures bounds { IsNone result → (1 ≤ k) × (1 ≤ m) × (k + m ≤ 16) × (c ≤ m) }
+{
+    if is_other_technique(profile.technique) {
+        Some(ProfileFault::Technique)
+    } else if is_other_width(profile.w) {
+        Some(ProfileFault::Width)
+    } else if k < 1 {
+        Some(ProfileFault::SmallK)
+    } else if m < 1 || c < 1 {
+        Some(ProfileFault::SmallM)
+    } else if are_many(k, m) {
+        Some(ProfileFault::TooMany)
+    } else if !is_unit(profile.stripe_unit) {
+        Some(ProfileFault::Unit)
+    } else if is_out_of_range(profile.min_size, k, m) {
+        Some(ProfileFault::MinSize)
+    } else if are_unordered(k, m, c) {
+        Some(ProfileFault::Order)
+    } else {
+        None
+    }
+}
+
+/// The numbers of a profile, or the first fault that it has.
+pub fn counts_of(profile: &Profile) -> Result<Counts, ProfileFault>
+    requires { profile.now.plugin ≡ Plugin.Shec }
+    ensures refused { IfErr result (IsRefusedBy profile.now) }
+    ensures accepted { IsOk result → IsAccepted profile.now }
+    ensures numbers { IfOk result (λ counts. (profile.now.k ≡ Some counts.k)
+        × (profile.now.m ≡ Some counts.m) × (profile.now.c ≡ Some counts.c)) }
+{
+    let Some(c) = profile.c else {
+        return Err(ProfileFault::Missing(Key::C));
+    };
+    let Some(k) = profile.k else {
+        return Err(ProfileFault::Missing(Key::K));
+    };
+    let Some(m) = profile.m else {
+        return Err(ProfileFault::Missing(Key::M));
+    };
+    if profile.technique.is_none() {
+        return Err(ProfileFault::Missing(Key::Technique));
+    }
+    match fault_of(profile, k, m, c) {
+        Some(fault) => Err(fault),
+        None => Ok(Counts {
+            k: k as u8,
+            m: m as u8,
+            c: c as u8,
+        }),
+    }
+}

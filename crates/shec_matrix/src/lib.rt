@@ -1,0 +1,19 @@
+//! The code of Ceph's plugin shec with its technique single: the rows of reed_sol_van, where each coding row leaves some data
+//! chunks out.
+//!
+//! The columns that a coding row leaves out are a window, which moves on from row to row and goes round from the last column
+//! to the first ([`shec_entry`]). With c = m no row leaves a column out.
+//!
+//! Headline: after `Shec::init` with Ok the coding rows are those of reed_sol_van for the profile's k and m, with zeros in the
+//! windows of k, m and c; a profile that has a fault is refused by the first in the order.
+//!
+//! For k = 4, m = 3 and c = 2 the coding rows are 1 1 0 0, 0 217 92 172 and 1 0 143 200.
+#![tactic(auto)]
+
+mod code;
+mod counts;
+mod rows;
+mod windows;
+
+pub use code::Shec;
+pub use rows::shec_entry;
