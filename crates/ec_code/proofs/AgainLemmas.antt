@@ -1,19 +1,17 @@
 -- The profile that the canonical lines of an accepted one are read as is accepted too, and means the same code.
-use Rattle.std.proofs.Common.{◌≡◌, ◌⊎◌, ℕ, ◌+◌, ◌-◌, ◌<◌, ◌≤◌, Some, None, refl, ap, sym, subst, arith, inl, inr}
-use Rattle.std.specs.Prelude.{⊤, length, codes}
+use Rattle.std.proofs.Common.{◌≡◌, ◌⊎◌, ℕ, ◌+◌, ◌-◌, ◌<◌, ◌≤◌, Some, None, refl, sym, subst, arith, inl, inr}
+use Rattle.std.specs.Prelude.{⊤}
 use Rattle.std.specs.declared.option.Option.{Option}
 use Rattle.ec_model.specs.Codes.{CodeRows}
 use Rattle.ec_model.specs.ReedSolVan.{IsReedSolVan}
-use Rattle.ec_code.specs.declared.profile.Plugin.{Plugin}
 use Rattle.ec_code.specs.declared.profile.Plugin.TheVariants as plugin
 use Rattle.ec_code.specs.declared.profile.Technique.TheVariants as technique
 use Rattle.ec_code.specs.declared.profile.Profile.{Profile}
 use Rattle.ec_code.specs.declared.fault.ProfileFault.{ProfileFault}
 use Rattle.ec_code.specs.declared.fault.ProfileFault.TheVariants as fault
 use Rattle.ec_code.specs.declared.fault.Key.TheVariants as key
-use Rattle.ec_code.specs.Profiles.{name_of}
 use Rattle.ec_code.specs.Readings.{jerasure_profile}
-use Rattle.ec_code.specs.Refusals.{HasJerasureFault, HasFaultOf, IsPluginsCode, IsUnit, IsAccepted, IsCodeOf}
+use Rattle.ec_code.specs.Refusals.{HasJerasureFault, IsPluginsCode, IsUnit, IsAccepted, IsCodeOf}
 use Rattle.ec_code.specs.Shapes.{default_least}
 
 -- the bounds of the numbers of an accepted profile
@@ -25,14 +23,14 @@ pub record Bounds (k m least unit : ℕ) : Type 0 where
   pub from : k ≤ least
   pub to : least ≤ k + m
 
-some_same : {A : Type 0} (a b : A) → ◌≡◌ {A = Option A} (Some a) (Some b) → a ≡ b
+pub some_same : {A : Type 0} (a b : A) → ◌≡◌ {A = Option A} (Some a) (Some b) → a ≡ b
 some_same {A} a b e = cc
 
 abbrev IsThere : {A : Type 0} → Option A → Type 0
 IsThere {A} (Some a) = ⊤
 IsThere {A} None = ⊥
 
-not_none : {A : Type 0} (a : A) → ◌≡◌ {A = Option A} (Some a) None → ⊥
+pub not_none : {A : Type 0} (a : A) → ◌≡◌ {A = Option A} (Some a) None → ⊥
 not_none {A} a e = subst (λ (o : Option A). IsThere o) e tt
 
 nothing_wrong : (k m least unit : ℕ) → Bounds k m least unit → (f : ProfileFault) → HasJerasureFault (jerasure_profile k m least unit) f → ⊥
@@ -73,7 +71,7 @@ abbrev pub IsLeastOf : Option ℕ → ℕ → ℕ → ℕ → Type 0
 IsLeastOf (Some given) k n least = least ≡ given
 IsLeastOf None k n least = least ≡ default_least k n
 
-sides : (a b : ℕ) → (a < b) ⊎ (b ≤ a)
+pub sides : (a b : ℕ) → (a < b) ⊎ (b ≤ a)
 sides a b = grind arith
 
 within : (p : Profile) (k m least : ℕ) (s : Option ℕ) → s ≡ p.min_size → p.k ≡ Some k → p.m ≡ Some m → 1 ≤ m
@@ -116,15 +114,9 @@ again_by p code k m least ok one two rows is =
       code_of = subst (λ (y : ℕ). IsReedSolVan code.k y code) coding (subst (λ (x : ℕ). IsReedSolVan x m code) data_chunks rows);
     }
 
-again_of : (q : Plugin) (p : Profile) (code : CodeRows) (least : ℕ) → name_of q ≡ codes "jerasure" → ((f : ProfileFault) → HasFaultOf q p f → ⊥) → IsPluginsCode q p code
+pub read_again : (p : Profile) (code : CodeRows) (least : ℕ) → ((f : ProfileFault) → HasJerasureFault p f → ⊥) → IsPluginsCode plugin.Jerasure p code
     → IsLeastOf p.min_size code.k code.n least → IsAgain code least p.stripe_unit
-again_of plugin.Jerasure p code least name ok is l = again_by p code is.0 is.2.0 least ok is.1 is.2.1 is.2.2 l
-again_of plugin.Lrc p code least name ok is l = absurd (omega (arith, ap length name))
-again_of plugin.Shec p code least name ok is l = absurd (omega (arith, ap length name))
-
-pub read_again : (p : Profile) (code : CodeRows) (least : ℕ) → name_of p.plugin ≡ codes "jerasure" → IsAccepted p → IsCodeOf p code → IsLeastOf p.min_size code.k code.n least
-    → IsAgain code least p.stripe_unit
-read_again p code least name ok is l = again_of p.plugin p code least name ok is l
+read_again p code least ok is l = again_by p code is.0 is.2.0 least ok is.1 is.2.1 is.2.2 l
 
 pub accepted_again : (code : CodeRows) (least unit : ℕ) → IsAgain code least unit
     → IsAccepted (jerasure_profile code.k (code.n - code.k) least unit) × IsCodeOf (jerasure_profile code.k (code.n - code.k) least unit) code

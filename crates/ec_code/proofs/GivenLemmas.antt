@@ -1,16 +1,16 @@
 -- What is known of a profile that was read.
-use Rattle.std.proofs.Common.{◌≡◌, ◌⊎◌, ℕ, List, [], ◌∷◌, ◌<◌, ◌≤◌, Some, None, Bool, true, false, Result, Ok, Err, refl, ap, sym, subst, arith, inl, inr}
-use Rattle.std.specs.Prelude.{⊤, codes, if◌then◌else◌, not, bytes_eq}
-use Rattle.std.specs.Str.{is_utf8}
-use Rattle.std.specs.declared.option.Option.{Option}
+use Rattle.std.proofs.Common.{◌≡◌, ◌⊎◌, ℕ, List, [], ◌∷◌, ◌<◌, ◌≤◌, None, Bool, true, false, Result, Ok, Err, refl, ap, sym, subst, arith, inl, inr}
+use Rattle.std.specs.Prelude.{if◌then◌else◌}
+use Rattle.std.specs.Str.{is_utf8, IsUtf8}
+use Rattle.std.proofs.lemmas.Str.{is_utf8-from_IsUtf8, IsUtf8-from_is_utf8}
 use Rattle.ec_code.specs.declared.profile.Plugin.{Plugin}
 use Rattle.ec_code.specs.declared.profile.Plugin.TheVariants as plugin
 use Rattle.ec_code.specs.declared.profile.Profile.{Profile}
 use Rattle.ec_code.specs.declared.fault.ProfileFault.{ProfileFault}
 use Rattle.ec_code.specs.declared.fault.ProfileFault.TheVariants as fault
-use Rattle.ec_code.specs.Profiles.{name_of}
-use Rattle.ec_code.specs.Settings.{Setting, has_settings, settings_of, value_of}
-use Rattle.ec_code.specs.Readings.{profile_of, profile_of_bytes, profile_of_plugin, plugin_of, refused_by, unknown_key, bad_key, profile_with, value_or}
+use Rattle.serde_json.specs.Read.{read}
+use Rattle.ec_code.specs.JsonProfiles.{begins_object, profile_of_value, profile_of_json, profile_of_settings_text, profile_of_bytes}
+use Rattle.ec_code.specs.Readings.{profile_of}
 use Rattle.ec_code.specs.LrcFaults.{has_number, HasFaultBy}
 use Rattle.ec_code.specs.Refusals.{fault_order, HasFault, HasFaultOf, IsFirst, IsUnit, IsRefusedBy, IsAccepted}
 
@@ -48,35 +48,6 @@ unit_of_plugin plugin.Shec p ok = unit_or_not p.stripe_unit (ok fault.Unit)
 pub accepted_unit : (p : Profile) → IsAccepted p → (1 ≤ p.stripe_unit) × (p.stripe_unit ≤ 65536)
 accepted_unit p ok = unit_of_plugin p.plugin p ok
 
--- which plugin a profile that was read has
-abbrev IsBuilt : Result Profile ProfileFault → Type 0
-IsBuilt (Ok p) = name_of p.plugin ≡ codes "jerasure"
-IsBuilt (Err f) = ⊤
-
-built_of : (unknown bad : Option (List ℕ)) (settings : List Setting)
-    → IsBuilt (refused_by fault.UnknownKey unknown (refused_by fault.BadValue bad (Ok (profile_with plugin.Jerasure settings))))
-built_of None None settings = refl
-built_of None (Some key) settings = tt
-built_of (Some key) bad settings = tt
-
-built_plugin : (is : Bool) (settings : List Setting)
-    → IsBuilt (profile_of_plugin (if is then Some plugin.Jerasure else None) settings)
-built_plugin true settings = built_of (unknown_key plugin.Jerasure settings) (bad_key settings) settings
-built_plugin false settings = tt
-
-built_settings : (whole : Bool) (settings : List Setting)
-    → IsBuilt (if not whole then Err fault.Setting else profile_of_plugin (plugin_of settings) settings)
-built_settings true settings = built_plugin (bytes_eq (value_or (codes "jerasure") (value_of settings (codes "plugin"))) (codes "jerasure")) settings
-built_settings false settings = tt
-
-built_bytes : (utf : Bool) (text : List ℕ) → IsBuilt (if utf then profile_of text else Err fault.Setting)
-built_bytes true text = built_settings (has_settings text) (settings_of text)
-built_bytes false text = tt
-
--- a profile that was read is of a plugin that is built
-pub read_plugin : (text : List ℕ) (p : Profile) → profile_of_bytes text ≡ Ok p → name_of p.plugin ≡ codes "jerasure"
-read_plugin text p e = subst IsBuilt e (built_bytes (is_utf8 text) text)
-
 -- a result is not both
 pub not_ok_and_err : (p : Profile) (f : ProfileFault) (r : Result Profile ProfileFault) → r ≡ Ok p → r ≡ Err f → ⊥
 not_ok_and_err p f r ok err = cc
@@ -84,9 +55,30 @@ not_ok_and_err p f r ok err = cc
 pub same_profile : (p q : Profile) (r : Result Profile ProfileFault) → r ≡ Ok p → r ≡ Ok q → p ≡ q
 same_profile p q r one other = cc
 
--- the profile of a text is the one of its bytes
-pub of_text : (text : List ℕ) → is_utf8 text ≡ true → profile_of_bytes text ≡ profile_of text
-of_text text is = ap (λ b. if b then profile_of text else Err fault.Setting) is
+-- the profile of bytes that are JSON, and of others
+pub of_object : (bytes : List ℕ) → begins_object bytes ≡ true → profile_of_bytes bytes ≡ profile_of_json bytes
+of_object bytes is = ap (λ b. if b then profile_of_json bytes else profile_of_settings_text bytes) is
 
-pub of_no_text : (text : List ℕ) → is_utf8 text ≡ false → profile_of_bytes text ≡ Err fault.Setting
-of_no_text text is = ap (λ b. if b then profile_of text else Err fault.Setting) is
+pub of_settings : (bytes : List ℕ) → begins_object bytes ≡ false → profile_of_bytes bytes ≡ profile_of_settings_text bytes
+of_settings bytes is = ap (λ b. if b then profile_of_json bytes else profile_of_settings_text bytes) is
+
+pub of_text : (bytes : List ℕ) → IsUtf8 bytes → profile_of_settings_text bytes ≡ profile_of bytes
+of_text bytes is = ap (λ b. if b then profile_of bytes else Err fault.Setting) (is_utf8-from_IsUtf8 bytes is)
+
+not_utf8 : (bytes : List ℕ) (is : Bool) → is_utf8 bytes ≡ is → (IsUtf8 bytes → ⊥) → is_utf8 bytes ≡ false
+not_utf8 bytes true e never = absurd (never (IsUtf8-from_is_utf8 bytes e))
+not_utf8 bytes false e never = e
+
+pub of_no_text : (bytes : List ℕ) → (IsUtf8 bytes → ⊥) → profile_of_settings_text bytes ≡ Err fault.Setting
+of_no_text bytes never = ap (λ b. if b then profile_of bytes else Err fault.Setting) (not_utf8 bytes (is_utf8 bytes) refl never)
+
+pub of_json_text : (bytes : List ℕ) → IsUtf8 bytes → profile_of_json bytes ≡ profile_of_value (read bytes)
+of_json_text bytes is = ap (λ b. if b then profile_of_value (read bytes) else Err fault.Json) (is_utf8-from_IsUtf8 bytes is)
+
+-- bytes that are no JSON
+pub of_no_json : (bytes : List ℕ) → (IsUtf8 bytes → read bytes ≡ None) → profile_of_json bytes ≡ Err fault.Json
+of_no_json bytes none = by (is_utf8 bytes) refl
+  where
+    by : (b : Bool) → is_utf8 bytes ≡ b → (if b then profile_of_value (read bytes) else Err fault.Json) ≡ Err fault.Json
+    by true e = ap profile_of_value (none (IsUtf8-from_is_utf8 bytes e))
+    by false e = refl

@@ -253,7 +253,7 @@ uneven_groups_first p k m l h lk lm few uneven =
       ),
     ))
 
-made_to : (p : Profile) (k m l : ℕ) → HasKml p k m l → (f : ProfileFault) → HasLayoutFault (mapping_of k m l) (layers_of k m l) p.stripe_unit p.min_size f → HasNumbersFault p f
+pub made_to : (p : Profile) (k m l : ℕ) → HasKml p k m l → (f : ProfileFault) → HasLayoutFault (mapping_of k m l) (layers_of k m l) p.stripe_unit p.min_size f → HasNumbersFault p f
 made_to p k m l h fault.UnknownPlugin is = absurd is
 made_to p k m l h (fault.UnknownKey name) is = absurd is
 made_to p k m l h (fault.BadValue name) is = absurd is
@@ -387,7 +387,7 @@ pub record PassesMapping (mapping : Mapping) : Type 0 where
   pub some_coding : data_chunks_of mapping ≡ mapping.len → ⊥
   pub few : mapping.len ≤ 16
 
-texts_to : (p : Profile) (mapping : Mapping) (layers : Layers) → HasTexts p mapping layers → (f : ProfileFault)
+pub texts_to : (p : Profile) (mapping : Mapping) (layers : Layers) → HasTexts p mapping layers → (f : ProfileFault)
     → HasLayoutFault (mapping_text mapping) (layer_texts layers) p.stripe_unit p.min_size f → HasWrittenFault p f
 texts_to p mapping layers h fault.UnknownPlugin is = absurd is
 texts_to p mapping layers h (fault.UnknownKey name) is = absurd is

@@ -1,5 +1,5 @@
 -- What the settings of a profile of the plugin jerasure are read as.
-use Rattle.std.proofs.Common.{◌≡◌, ℕ, Bool, true, false, not, cond, List, [], ◌∷◌, ◌++◌, ◌+◌, ◌-◌, ◌<◌, ◌^◌, ◌%◌, ◌&&◌, length, take, Some, None, Ok, Err, refl, ap, sym, ◌∙◌, arith}
+use Rattle.std.proofs.Common.{◌≡◌, ℕ, Bool, true, false, not, cond, List, [], ◌∷◌, ◌++◌, ◌+◌, ◌-◌, ◌<◌, ◌^◌, ◌%◌, ◌&&◌, ◌||◌, length, take, Some, None, Ok, Err, refl, ap, sym, ◌∙◌, arith}
 use Rattle.std.specs.Prelude.{filter, codes, is_some, nat_eq, nat_lt}
 use Rattle.std.specs.List.{list_all, ends_with}
 use Rattle.std.specs.Option.{option_and_then}
@@ -16,10 +16,10 @@ use Rattle.ec_code.specs.declared.profile.Plugin.TheVariants as plugin
 use Rattle.ec_code.specs.declared.profile.Technique.TheVariants as technique
 use Rattle.ec_code.specs.declared.fault.ProfileFault.TheVariants as fault
 use Rattle.ec_code.specs.Settings.{Setting, has_settings, settings_of, keys_of}
-use Rattle.ec_code.specs.Readings.{number_of_text, kibibytes, unit_of_text, is_bad, bad_key, least_text, value_or, refused_by, plugin_of, profile_with, profile_of_plugin, profile_of, jerasure_profile}
+use Rattle.ec_code.specs.Readings.{number_of_text, kibibytes, unit_of_text, is_bad, bad_key, least_text, value_or, refused_by, plugin_of, profile_with, profile_of_plugin, profile_of_settings, profile_of, layers_at, GivenLayers, jerasure_profile}
 
 -- the digits of a number are read as it
-number_read : (n : ℕ) → n < 2 ^ 32 → number_of_text (decimal n) ≡ Some n
+pub number_read : (n : ℕ) → n < 2 ^ 32 → number_of_text (decimal n) ≡ Some n
 number_read n lt =
     let v : digits_value 10 (decimal n) ≡ n = (decimal_is_IsNumeral n (omega arith)).1 in
     let same = (bytes_eq-Decides (decimal n) (decimal (digits_value 10 (decimal n)))).1 (ap decimal (sym v)) in
@@ -34,7 +34,7 @@ no_K ds b lt =
     let differs : (nat_eq 75 b && true) ≡ false = grind (arith, nat_tests) in
     ap (pointwise nat_eq (75 ∷ [])) (drop_at ds (b ∷ []) (length (ds ++ b ∷ []) - 1) (omega (arith, length-append ds (b ∷ [])))) ∙ differs
 
-unit_read : (n : ℕ) → n < 2 ^ 32 → unit_of_text (decimal n) ≡ Some n
+pub unit_read : (n : ℕ) → n < 2 ^ 32 → unit_of_text (decimal n) ≡ Some n
 unit_read n lt =
     let without = decimal_by_steps (λ _ ds. ends_with nat_eq ds (75 ∷ []) ≡ false)
     (λ d l. no_K [] (48 + d) (omega arith)) (λ d ds l _. no_K ds (48 + d % 10) (omega arith)) n (omega arith) in
@@ -49,7 +49,7 @@ settings_with k m least unit =
     ∷ record { key = codes "stripe_unit"; value = unit } ∷ record { key = codes "technique"; value = codes "reed_sol_van" }
     ∷ record { key = codes "w"; value = codes "8" } ∷ []
 
-none_pass : (p : List ℕ → Bool) (xs : List (List ℕ)) → list_all (λ x. not (p x)) xs ≡ true → filter p xs ≡ []
+pub none_pass : (p : List ℕ → Bool) (xs : List (List ℕ)) → list_all (λ x. not (p x)) xs ≡ true → filter p xs ≡ []
 none_pass p [] e = refl
 none_pass p (x ∷ xs) e = by (p x) (none_pass p xs) e
   where
@@ -58,7 +58,7 @@ none_pass p (x ∷ xs) e = by (p x) (none_pass p xs) e
     by false rest f = rest f
 
 -- each value has its form, where the numbers are read
-module _ (k m least unit : List ℕ) (k' m' least' unit' : ℕ)
+module _ (layers : GivenLayers) (k m least unit : List ℕ) (k' m' least' unit' : ℕ)
     (first : number_of_text k ≡ Some k') (second : number_of_text m ≡ Some m') (third : number_of_text least ≡ Some least') (fourth : unit_of_text unit ≡ Some unit') where
   all_read : {X : Type 0} (f : Option ℕ → Option ℕ → Option ℕ → Option ℕ → X)
       → f (number_of_text k) (number_of_text m) (number_of_text least) (unit_of_text unit) ≡ f (Some k') (Some m') (Some least') (Some unit')
@@ -68,12 +68,12 @@ module _ (k m least unit : List ℕ) (k' m' least' unit' : ℕ)
       ∙ ap (λ o. f (Some k') (Some m') o (unit_of_text unit)) third
       ∙ ap (λ o. f (Some k') (Some m') (Some least') o) fourth
 
-  bad_none : bad_key (settings_with k m least unit) ≡ None
+  bad_none : bad_key layers (settings_with k m least unit) ≡ None
   unfolding digits
-  bad_none = ap least_text (none_pass (is_bad (settings_with k m least unit)) (keys_of (settings_with k m least unit))
-      (all_read (λ k m least unit. not (not (is_some k)) && (not (not (is_some m)) && (not (not (is_some least)) && (not (not (is_some unit)) && true))))))
+  bad_none = ap least_text (none_pass (is_bad layers (settings_with k m least unit)) (keys_of (settings_with k m least unit))
+      (all_read (λ k m least unit. not (not (is_some k) || false) && (not (not (is_some m) || false) && (not (not (is_some least) || false) && (not (not (is_some unit) || false) && true))))))
 
-  profile_is : profile_with plugin.Jerasure (settings_with k m least unit) ≡ jerasure_profile k' m' least' unit'
+  profile_is : profile_with plugin.Jerasure layers (settings_with k m least unit) ≡ jerasure_profile k' m' least' unit'
   unfolding digits
   profile_is = all_read (λ k m least unit. record {
     plugin = plugin.Jerasure;
@@ -89,15 +89,15 @@ module _ (k m least unit : List ℕ) (k' m' least' unit' : ℕ)
     min_size = least;
   })
 
-  pub profile_of_settings : profile_of_plugin (plugin_of (settings_with k m least unit)) (settings_with k m least unit) ≡ Ok (jerasure_profile k' m' least' unit')
-  profile_of_settings =
-      ap (λ bad. refused_by fault.BadValue bad (Ok (profile_with plugin.Jerasure (settings_with k m least unit)))) bad_none
+  pub settings_read : profile_of_plugin (plugin_of (settings_with k m least unit)) layers (settings_with k m least unit) ≡ Ok (jerasure_profile k' m' least' unit')
+  settings_read =
+      ap (λ bad. refused_by fault.BadValue bad (Ok (profile_with plugin.Jerasure layers (settings_with k m least unit)))) bad_none
       ∙ ap Ok profile_is
 
 -- a text whose settings are those of these numbers is read as the profile with them
 pub profile_of_canonical : (text : List ℕ) (k m least unit : ℕ) → k < 2 ^ 32 → m < 2 ^ 32 → least < 2 ^ 32 → unit < 2 ^ 32 → has_settings text ≡ true
     → settings_of text ≡ settings_with (decimal k) (decimal m) (decimal least) (decimal unit) → profile_of text ≡ Ok (jerasure_profile k m least unit)
 profile_of_canonical text k m least unit lk lm ll lu has is =
-    ap (λ h. cond (not h) (Err fault.Setting) (profile_of_plugin (plugin_of (settings_of text)) (settings_of text))) has
-    ∙ ap (λ s. profile_of_plugin (plugin_of s) s) is
-    ∙ profile_of_settings (decimal k) (decimal m) (decimal least) (decimal unit) k m least unit (number_read k lk) (number_read m lm) (number_read least ll) (unit_read unit lu)
+    ap (λ h. cond (not h) (Err fault.Setting) (profile_of_settings (layers_at (settings_of text)) (settings_of text))) has
+    ∙ ap (λ s. profile_of_settings (layers_at s) s) is
+    ∙ settings_read (layers_at (settings_with (decimal k) (decimal m) (decimal least) (decimal unit))) (decimal k) (decimal m) (decimal least) (decimal unit) k m least unit (number_read k lk) (number_read m lm) (number_read least ll) (unit_read unit lu)

@@ -2,6 +2,9 @@ pub mod Bounds
 pub mod Choosing
 pub mod Encoding
 pub mod Faults
+pub mod JsonProfiles
+pub mod LayerTexts
+pub mod LayerValues
 pub mod LrcFaults
 pub mod Mappings
 pub mod Profiles

@@ -11,6 +11,7 @@ mod code;
 mod deciding;
 mod encode;
 mod fault;
+mod layouts;
 mod mapping;
 mod profile;
 mod shape;

@@ -4,15 +4,21 @@
 
 use ec_code::Code;
 use ec_words::NoMemory;
+use lrc_layers::Lrc;
+use plugin_reg::has_each_plugin;
 use pool_run::{Status, ecpool};
 use rig_disk::{FileRig, StdSource};
 use rs_van::RsVan;
+use shec_matrix::Shec;
 use std::env;
 use std::io::ErrorKind;
 use std::process::ExitCode;
 
 /// The status where memory ran out.
 const NO_MEMORY: u8 = 13;
+
+/// The status where a plugin has no box. No run ends with it: the test that would is there for the proof of what `ecpool` asks.
+const NO_PLUGIN: u8 = 70;
 
 /// The folder of the slots where the words name none.
 const HERE: &str = ".";
@@ -32,18 +38,23 @@ fn words(rt: &HostRuntime) -> Result<Vec<String>, NoMemory> {
     Ok(words)
 }
 
-// Makes a box of each plugin that is built, the real rig and the real input, and does what the words ask for.
+// Makes a box of each plugin, the real rig and the real input, and does what the words ask for.
 fn run(rt: HostRuntime, words: &[String]) -> Result<Status, NoMemory> {
     let alloc = rt.alloc();
-    let mut codes: Vec<Box<dyn Code>> = Vec::new(alloc);
-    codes.push(Box::new(alloc, RsVan::new())?)?;
+    let mut boxes: Vec<Box<dyn Code>> = Vec::new(alloc);
+    boxes.push(Box::new(alloc, RsVan::new())?)?;
+    boxes.push(Box::new(alloc, Lrc::new())?)?;
+    boxes.push(Box::new(alloc, Shec::new())?)?;
+    if !has_each_plugin(&boxes) {
+        return Ok(Status(NO_PLUGIN));
+    }
     let dir = match words.get(1) {
         Some(dir) => dir.as_str(),
         None => HERE,
     };
     let mut rig = FileRig::open(rt, alloc, dir)?;
     let mut source = StdSource::new(rt);
-    Ok(ecpool(alloc, words, &mut codes, &mut rig, &mut source))
+    Ok(ecpool(alloc, words, &mut boxes, &mut rig, &mut source))
 }
 
 fn main(rt: HostRuntime) -> ExitCode {

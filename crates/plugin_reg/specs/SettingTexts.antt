@@ -3,6 +3,7 @@ use Rattle.std.specs.Prelude.{ℕ, List, not, drop, filter, map}
 use Rattle.std.specs.Borrow.{Bor}
 use Rattle.std.specs.List.{prefix_len}
 use Rattle.ec_code.specs.Settings.{Setting, is_blank, is_empty, trimmed}
+use Rattle.plugin_reg.specs.declared.json.MemberText.{MemberText}
 use Rattle.plugin_reg.specs.declared.settings.SettingText.{SettingText}
 
 -- a text without the blanks and line feeds that it begins with
@@ -24,3 +25,7 @@ shown_setting s = record { key = s.key.now; value = s.value.now }
 -- the settings that some texts of them are
 abbrev pub shown : List SettingText → List Setting
 shown settings = map shown_setting settings
+
+-- the settings that some members in JSON are
+abbrev pub shown_members : List MemberText → List Setting
+shown_members members = map (λ m. record { key = m.key.now; value = m.value }) members

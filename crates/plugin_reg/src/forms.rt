@@ -1,6 +1,6 @@
 //! The keys of a profile, and the forms of their values.
-ghost use Rattle.std.specs.Prelude.{◌≡◌};
-ghost use Rattle.ec_code.specs.Readings.{number_of_text, unit_of_text, is_ignored, is_key_of, is_unknown, has_form};
+ghost use Rattle.std.specs.Prelude.{◌≡◌, is_some};
+ghost use Rattle.ec_code.specs.Readings.{GivenLayers, number_of_text, unit_of_text, is_ignored, is_common_key, is_number_key, is_layout_key, is_shec_number_key, is_key_of, is_unknown, is_place, is_mapping, has_form};
 
 use ec_code::Plugin;
 use ec_words::read_u64;
@@ -54,16 +54,35 @@ fn is_key_of(plugin: Plugin, key: &[u8]) -> bool
 {
     match plugin {
         Plugin::Jerasure => is_jerasure_key(key),
-        Plugin::Lrc | Plugin::Shec => false,
+        Plugin::Lrc => is_common_key(key) || is_number_key(key) || is_layout_key(key),
+        Plugin::Shec => is_shec_key(key),
     }
+}
+
+fn is_common_key(key: &[u8]) -> bool
+    ensures { result ≡ is_common_key key.now }
+{
+    key == b"plugin".as_slice() || key == b"stripe_unit".as_slice() || key == b"min_size".as_slice()
+}
+
+/// The keys of the plugin lrc by which its layers are made from numbers.
+pub fn is_number_key(key: &[u8]) -> bool
+    ensures { result ≡ is_number_key key.now }
+{
+    key == b"k".as_slice() || key == b"m".as_slice() || key == b"l".as_slice()
+}
+
+/// The keys of the plugin lrc by which its layers are written.
+pub fn is_layout_key(key: &[u8]) -> bool
+    ensures { result ≡ is_layout_key key.now }
+{
+    key == b"mapping".as_slice() || key == b"layers".as_slice()
 }
 
 fn is_jerasure_key(key: &[u8]) -> bool
     ensures { result ≡ is_key_of Plugin.Jerasure key.now }
 {
-    key == b"plugin".as_slice()
-        || key == b"stripe_unit".as_slice()
-        || key == b"min_size".as_slice()
+    is_common_key(key)
         || key == b"k".as_slice()
         || key == b"m".as_slice()
         || key == b"technique".as_slice()
@@ -72,9 +91,26 @@ fn is_jerasure_key(key: &[u8]) -> bool
         || key == b"jerasure-per-chunk-alignment".as_slice()
 }
 
-/// Whether a value has the form that its key asks for.
-pub fn has_form(key: &[u8], value: &[u8]) -> bool
-    ensures { result ≡ has_form key.now value.now }
+fn is_shec_key(key: &[u8]) -> bool
+    ensures { result ≡ is_key_of Plugin.Shec key.now }
+{
+    is_common_key(key)
+        || is_shec_number_key(key)
+        || key == b"technique".as_slice()
+        || key == b"w".as_slice()
+}
+
+/// The numbers of the plugin shec that have a default where none of them is given.
+pub fn is_shec_number_key(key: &[u8]) -> bool
+    ensures { result ≡ is_shec_number_key key.now }
+{
+    key == b"k".as_slice() || key == b"m".as_slice() || key == b"c".as_slice()
+}
+
+/// Whether a value has the form that its key asks for. That of the key `layers` was read already, and has its
+/// form where it gave layers.
+pub fn has_form(has_layers: bool, key: &[u8], value: &[u8]) -> bool
+    ensures { (layers : GivenLayers) → has_layers ≡ is_some layers → result ≡ has_form layers key.now value.now }
 {
     if is_ignored(key) {
         true
@@ -84,7 +120,24 @@ pub fn has_form(key: &[u8], value: &[u8]) -> bool
         value == b"false".as_slice()
     } else if key == b"stripe_unit".as_slice() {
         unit(value).is_some()
+    } else if key == b"mapping".as_slice() {
+        is_mapping(value)
+    } else if key == b"layers".as_slice() {
+        has_layers
     } else {
         number(value).is_some()
     }
+}
+
+// Some characters, each `D` or `_`.
+fn is_mapping(text: &[u8]) -> bool
+    ensures { result ≡ is_mapping text.now }
+{
+    !text.is_empty() && text.iter().all(|b| is_place(*b))
+}
+
+fn is_place(b: u8) -> bool
+    ensures { result ≡ is_place b }
+{
+    b == b'D' || b == b'_'
 }

@@ -6,14 +6,19 @@
 //! `print_profile` gives the canonical lines of a profile: its settings by the bytes of their keys.
 #![tactic(auto)]
 
+#[cfg(test)]
+mod answers;
 mod forms;
+mod json;
 mod laws;
+mod layers;
 mod picks;
 mod printing;
 mod reading;
 mod settings;
 
-pub use laws::lines_are_read_back;
-pub use picks::pick;
+pub use json::{read_any, read_profile_json};
+pub use laws::{lines_are_read_back, read_profiles_are_writable};
+pub use picks::{has_each_plugin, pick};
 pub use printing::print_profile;
 pub use reading::{RegFault, read_profile};

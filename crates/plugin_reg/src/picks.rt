@@ -1,9 +1,9 @@
 //! The choice of the box that serves a profile.
-ghost use Rattle.std.specs.Prelude.{◌≡◌, ◌≢◌, ◌<◌, ℕ, IfSome, IsNone, IfOk, IfErr, IsErr, Err, length, slice_index_or};
+ghost use Rattle.std.specs.Prelude.{◌≡◌, ◌≢◌, ◌↔◌, ◌<◌, ℕ, IsTrue, IfSome, IsNone, IfOk, IfErr, IsErr, Err, length, slice_index_or};
 ghost use Rattle.ec_code.specs.Profiles.{name_of};
 ghost use Rattle.ec_code.specs.Refusals.{IsCodeOf, KeepsPromise, IsAccepted, IsRefusedBy};
 
-use ec_code::{Code, Profile, ProfileFault};
+use ec_code::{Code, Plugin, Profile, ProfileFault};
 
 /// The first box that goes by a name.
 fn first_named(codes: &[Box<dyn Code>], name: &str) -> Option<usize>
@@ -17,6 +17,26 @@ fn first_named(codes: &[Box<dyn Code>], name: &str) -> Option<usize>
         }
     }
     None
+}
+
+// Whether a plugin has a box.
+fn has_plugin(codes: &[Box<dyn Code>], plugin: Plugin) -> bool
+    ensures { IsTrue result ↔ ((i : ℕ) × (i < length codes.now) × ((d : _) → plugin_name (slice_index_or codes.now i d) ≡ name_of plugin)) }
+{
+    match first_named(codes, plugin.name()) {
+        Some(_) => true,
+        None => false,
+    }
+}
+
+/// Whether each plugin has a box.
+pub fn has_each_plugin(codes: &[Box<dyn Code>]) -> bool
+    ensures { IsTrue result ↔ ((q : _) → (i : ℕ) × (i < length codes.now) × ((d : _) → plugin_name (slice_index_or codes.now i d) ≡ name_of q)) }
+{
+    let jerasure = has_plugin(codes, Plugin::Jerasure);
+    let lrc = has_plugin(codes, Plugin::Lrc);
+    let shec = has_plugin(codes, Plugin::Shec);
+    if jerasure && lrc { shec } else { false }
 }
 
 /// Makes the first box that goes by the profile's plugin the code of the profile, and answers its number.

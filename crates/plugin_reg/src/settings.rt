@@ -141,7 +141,7 @@ fn trimmed(text: &[u8]) -> &[u8]
     untrailed(unled(text))
 }
 
-fn unled(text: &[u8]) -> &[u8]
+pub fn unled(text: &[u8]) -> &[u8]
     ensures { result.now ≡ unled text.now }
 {
     let mut start = 0;

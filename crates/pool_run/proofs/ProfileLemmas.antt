@@ -1,31 +1,14 @@
 -- The profiles of texts, and their refusals.
-use Rattle.std.proofs.Common.{◌≡◌, ℕ, List, [], ◌∷◌, ◌++◌, ◌+◌, ◌<◌, length, map, append_assoc, Bool, true, false, inl, inr, refl, ap, sym, ◌∙◌, subst, arith}
+use Rattle.std.proofs.Common.{◌≡◌, ℕ, List, [], ◌∷◌, ◌++◌, ◌+◌, map, append_assoc, inl, inr, ap, sym, ◌∙◌, subst, arith}
 use Rattle.std.specs.List.{flat_map, range_with_len}
 use Rattle.std.proofs.lemmas.List.FromFn.{map-range_with_len_more}
-use Rattle.std.specs.Str.{IsUtf8, is_utf8}
-use Rattle.std.proofs.lemmas.Str.{is_utf8-from_IsUtf8, IsUtf8-from_is_utf8}
 use Rattle.ec_model.proofs.StripeLemmas.{flat_map-range_more}
 use Rattle.ec_code.specs.declared.profile.Profile.{Profile}
 use Rattle.ec_code.specs.declared.fault.ProfileFault.{ProfileFault}
-use Rattle.ec_code.specs.Readings.{profile_of, profile_of_bytes}
+use Rattle.ec_code.specs.JsonProfiles.{profile_of_bytes}
 use Rattle.ec_code.specs.Refusals.{IsRefusedBy}
-use Rattle.ec_code.proofs.GivenLemmas.{of_text, not_both, not_ok_and_err, same_profile}
+use Rattle.ec_code.proofs.GivenLemmas.{not_both, not_ok_and_err, same_profile}
 use Rattle.pool_run.specs.Profiles.{GivesProfile, IsRefused}
-
-pub text_read : (bytes text : List ℕ) → text ≡ bytes → IsUtf8 bytes → profile_of_bytes bytes ≡ profile_of text
-text_read bytes text same utf8 = of_text bytes (is_utf8-from_IsUtf8 bytes utf8) ∙ ap profile_of (sym same)
-
-not_utf8_at : (bytes : List ℕ) (is : Bool) → is_utf8 bytes ≡ is → (IsUtf8 bytes → ⊥) → is_utf8 bytes ≡ false
-not_utf8_at bytes true e never = absurd (never (IsUtf8-from_is_utf8 bytes e))
-not_utf8_at bytes false e never = e
-
-pub not_utf8 : (bytes : List ℕ) → (IsUtf8 bytes → ⊥) → is_utf8 bytes ≡ false
-not_utf8 bytes never = not_utf8_at bytes (is_utf8 bytes) refl never
-
--- an element of a list that has one
-pub element : {A : Type 0} (xs : List A) (i : ℕ) → i < length xs → A
-element {A} [] i less = absurd (omega (arith, less))
-element {A} (x ∷ xs) i less = x
 
 -- a text that gives a profile is not refused
 pub given_not_refused : (text : List ℕ) (p : Profile) (f : ProfileFault) → GivesProfile text p → IsRefused text f → ⊥

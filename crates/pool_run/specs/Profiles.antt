@@ -9,7 +9,7 @@ use Rattle.ec_model.specs.Rows.{entry_at}
 use Rattle.ec_code.specs.declared.profile.Profile.{Profile}
 use Rattle.ec_code.specs.declared.fault.ProfileFault.{ProfileFault}
 use Rattle.ec_code.specs.Faults.{number_of, fault_name_of, carried_key}
-use Rattle.ec_code.specs.Readings.{profile_of_bytes}
+use Rattle.ec_code.specs.JsonProfiles.{profile_of_bytes}
 use Rattle.ec_code.specs.Refusals.{IsAccepted, IsRefusedBy, IsCodeOf}
 use Rattle.plugin_reg.specs.Canonical.{canonical_lines}
 use Rattle.rig_disk.specs.Said.{SaysFront}

@@ -24,10 +24,6 @@ AskProfile words profile = texts_of words ≡ codes "profile" ∷ profile ∷ []
 abbrev pub whole_input : List ℕ
 whole_input = codes "-"
 
--- the plugin that a box is there for
-abbrev pub served_plugin : List ℕ
-served_plugin = codes "jerasure"
-
 -- the words are no command
 abbrev pub AreWrong : Words → Type 0
 AreWrong words = (profile : List ℕ) → ¬ (AskTry words profile) × ¬ (AskProfile words profile)

@@ -9,7 +9,6 @@ ghost use Rattle.pool_run.specs.Headline.{IsAnswered};
 ghost use Rattle.pool_run.specs.Profiles.{GivesProfile, IsRefused, ShowsProfile, SaysFault, profile_text};
 ghost use Rattle.pool_run.specs.Script.{ReadsAll};
 ghost use Rattle.pool_run.specs.Texts.{OneOf, ComesFor, line_of, max_input};
-ghost use Rattle.pool_run.specs.Words.{served_plugin};
 
 use crate::profiles::{open_profile, print_code, print_fault};
 use crate::program::Status;
@@ -28,7 +27,7 @@ pub fn try_profile<R: Rig, S: Source>(
     rig: &mut R,
     source: &mut S,
 ) -> Status
-    requires { (i : ℕ) × (i < length codes.old) × ((d : _) → plugin_name (slice_index_or codes.old i d) ≡ served_plugin) }
+    requires { (q : _) → (i : ℕ) × (i < length codes.old) × ((d : _) → plugin_name (slice_index_or codes.old i d) ≡ name_of q) }
     ensures statuses { OneOf result.0 (0 ∷ 1 ∷ 3 ∷ 8 ∷ 9 ∷ 12 ∷ 13 ∷ []) }
     ensures accepted { (p : _) → GivesProfile text.now p → OneOf result.0 (0 ∷ 1 ∷ 8 ∷ 9 ∷ 12 ∷ 13 ∷ []) }
     ensures script { (p : _) (script : List ℕ) → GivesProfile text.now p → S.left source.old ≡ Some script
@@ -90,7 +89,7 @@ pub fn show_input<R: Rig, S: Source>(
     rig: &mut R,
     source: &mut S,
 ) -> Status
-    requires { (i : ℕ) × (i < length codes.old) × ((d : _) → plugin_name (slice_index_or codes.old i d) ≡ served_plugin) }
+    requires { (q : _) → (i : ℕ) × (i < length codes.old) × ((d : _) → plugin_name (slice_index_or codes.old i d) ≡ name_of q) }
     ensures statuses { OneOf result.0 (0 ∷ 3 ∷ 8 ∷ 9 ∷ 12 ∷ 13 ∷ []) }
     ensures shown { (text : List ℕ) (p : _) → S.left source.old ≡ Some text → length text ≤ max_input → GivesProfile text p
         → ShowsProfile p result.0 (R.said rig.old) (R.said rig.new) }
@@ -122,7 +121,7 @@ pub fn show_profile<R: Rig>(
     codes: &mut [Box<dyn Code>],
     rig: &mut R,
 ) -> Status
-    requires { (i : ℕ) × (i < length codes.old) × ((d : _) → plugin_name (slice_index_or codes.old i d) ≡ served_plugin) }
+    requires { (q : _) → (i : ℕ) × (i < length codes.old) × ((d : _) → plugin_name (slice_index_or codes.old i d) ≡ name_of q) }
     ensures statuses { OneOf result.0 (0 ∷ 3 ∷ 9 ∷ 13 ∷ []) }
     ensures shown { (p : _) → GivesProfile text.now p → ShowsProfile p result.0 (R.said rig.old) (R.said rig.new) }
     ensures refused { (f : _) → IsRefused text.now f → SaysFault text.now result.0 (R.said rig.old) (R.said rig.new) }
@@ -142,7 +141,6 @@ pub fn show_profile<R: Rig>(
 
 // Says the canonical lines of an accepted profile and the rows of its code.
 fn show_code<R: Rig>(alloc: Global, profile: &Profile, code: &dyn Code, rig: &mut R) -> Status
-    requires jerasure { name_of profile.now.plugin ≡ served_plugin }
     requires accepted { IsAccepted profile.now }
     requires made { IsCodeOf profile.now (meaning code.now) }
     ensures shown { ShowsProfile profile.now result.0 (R.said rig.old) (R.said rig.new) }

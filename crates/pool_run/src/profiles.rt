@@ -5,14 +5,12 @@ ghost use Rattle.std.specs.List.{range_with_len};
 ghost use Rattle.std.specs.Option.{option_map};
 ghost use Rattle.ec_model.specs.Rows.{entry_at};
 ghost use Rattle.ec_code.specs.Profiles.{name_of};
-ghost use Rattle.ec_code.specs.Readings.{profile_of_bytes};
 ghost use Rattle.ec_code.specs.Refusals.{IsAccepted, IsCodeOf};
 ghost use Rattle.pool_run.specs.Profiles.{GivesProfile, IsRefused, key_field, fault_line, row_line, rows_text, profile_text};
-ghost use Rattle.pool_run.specs.Words.{served_plugin};
 
 use ec_code::{Code, Profile, ProfileFault};
 use ec_words::{Bytes, NoMemory};
-use plugin_reg::{RegFault, pick, print_profile, read_profile};
+use plugin_reg::{RegFault, pick, print_profile, read_any};
 use std::alloc::Global;
 
 /// An accepted profile, and the number of the box that is its code.
@@ -28,30 +26,18 @@ pub fn open_profile(
     text: &[u8],
     codes: &mut [Box<dyn Code>],
 ) -> Result<Opened, RegFault>
-    requires { (i : ℕ) × (i < length codes.old) × ((d : _) → plugin_name (slice_index_or codes.old i d) ≡ served_plugin) }
+    requires { (q : _) → (i : ℕ) × (i < length codes.old) × ((d : _) → plugin_name (slice_index_or codes.old i d) ≡ name_of q) }
     ensures gives { IfOk result (λ opened. GivesProfile text.now opened.profile) }
-    ensures served { IfOk result (λ opened. name_of opened.profile.plugin ≡ served_plugin) }
     ensures below { IfOk result (λ opened. opened.index < length codes.new) }
     ensures made { IfOk result (λ opened. (d : _) → IsCodeOf opened.profile (meaning (slice_index_or codes.new opened.index d))) }
     ensures refused { (fault : _) → result ≡ Err (RegFault.Profile fault) → IsRefused text.now fault }
     ensures boxes { length codes.new ≡ length codes.old }
     ensures kept { (j : ℕ) (d : _) → plugin_name (slice_index_or codes.new j d) ≡ plugin_name (slice_index_or codes.old j d) }
 {
-    let profile = read_bytes(alloc, text)?;
+    let profile = read_any(alloc, text)?;
     match pick(codes, &profile) {
         Ok(index) => Ok(Opened { index, profile }),
         Err(fault) => Err(RegFault::Profile(fault)),
-    }
-}
-
-// The profile of some bytes; where they are no text, no piece of them is a setting.
-fn read_bytes(alloc: Global, bytes: &[u8]) -> Result<Profile, RegFault>
-    ensures value { IfOk result (λ profile. profile_of_bytes bytes.now ≡ Ok profile) }
-    ensures refused { (fault : _) → result ≡ Err (RegFault.Profile fault) → profile_of_bytes bytes.now ≡ Err fault }
-{
-    match str::from_utf8(bytes) {
-        Ok(text) => read_profile(alloc, text),
-        Err(_) => Err(RegFault::Profile(ProfileFault::Setting)),
     }
 }
 
@@ -92,7 +78,6 @@ fn push_key(list: &mut Vec<u8>, key: Option<&[u8]>) -> Result<(), NoMemory>
 
 /// What an accepted profile means: its canonical lines, and `row P HEX` for each position of its code.
 pub fn print_code(alloc: Global, profile: &Profile, code: &dyn Code) -> Result<Bytes, NoMemory>
-    requires jerasure { name_of profile.now.plugin ≡ served_plugin }
     requires accepted { IsAccepted profile.now }
     requires made { IsCodeOf profile.now (meaning code.now) }
     ensures { IfOk result (λ text. text ≡ profile_text profile.now (meaning code.now)) }

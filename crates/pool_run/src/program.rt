@@ -2,10 +2,11 @@
 ghost use Rattle.std.specs.Prelude.{◌≡◌, ◌≢◌, ◌<◌, ◌∷◌, [], List, ℕ, Some, length, slice_index_or, string_bytes};
 ghost use Rattle.std.specs.Io.KnownBytes.{Appends};
 ghost use Rattle.rig_disk.specs.Faults.{Rose};
+ghost use Rattle.ec_code.specs.Profiles.{name_of};
 ghost use Rattle.pool_run.specs.Headline.{IsAnswered, status_of};
 ghost use Rattle.pool_run.specs.Profiles.{GivesProfile, IsRefused, AsksToShow, AsksFor, ShowsProfile, SaysFault, IsAskedFor};
 ghost use Rattle.pool_run.specs.Texts.{OneOf, ComesFor, SaysItsLine, line_of, max_input};
-ghost use Rattle.pool_run.specs.Words.{AreWrong, AskTry, AskProfile, Asks, whole_input, served_plugin};
+ghost use Rattle.pool_run.specs.Words.{AreWrong, AskTry, AskProfile, Asks, whole_input};
 
 use crate::commands::{say_last, show_input, show_profile, try_profile};
 use crate::texts::USAGE;
@@ -26,8 +27,8 @@ enum Request<'a> {
     ShowInput,
 }
 
-/// Does what the words of the command line ask for, over this input and this rig's output. `codes` has a box of the plugin
-/// jerasure; the first of a profile's plugin becomes the profile's code.
+/// Does what the words of the command line ask for, over this input and this rig's output. `codes` has a box of each plugin; the
+/// first of a profile's plugin becomes the profile's code.
 pub fn ecpool<R: Rig, S: Source>(
     alloc: Global,
     words: &[String],
@@ -35,7 +36,7 @@ pub fn ecpool<R: Rig, S: Source>(
     rig: &mut R,
     source: &mut S,
 ) -> Status
-    requires { (i : ℕ) × (i < length codes.old.items) × ((d : _) → plugin_name (slice_index_or codes.old.items i d) ≡ served_plugin) }
+    requires { (q : _) → (i : ℕ) × (i < length codes.old.items) × ((d : _) → plugin_name (slice_index_or codes.old.items i d) ≡ name_of q) }
     ensures statuses { OneOf result.0 (0 ∷ 1 ∷ 2 ∷ 3 ∷ 8 ∷ 9 ∷ 12 ∷ 13 ∷ []) }
 
     // What is said to a script is a prefix of the map's replies to it, and then the line of the status.

@@ -38,7 +38,7 @@ none_of_few rows avail wanted size few other inside large _ = let le = size-in o
 -- a set of size 1 has one position and no other
 one_alone : (set avail : ℕ) → avail < 2 ^ 16 → LiesIn set avail → size_of set ≡ 1 → (q : ℕ) × (q < 16) × IsWith q 0 set
 one_alone set avail fits inside large =
-    let small = in-lt set avail fits inside in
+    let small = in-lt set avail (2 ^ 16) fits inside in
     let some = some_position set (omega (arith, large)) in
     let found = bit_at-trailing_zeros w16 set some small in
     let q = trailing_zeros w16 set in

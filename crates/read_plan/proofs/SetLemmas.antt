@@ -199,6 +199,6 @@ pub some_position : (set : ℕ) → 0 < size_of set → 0 < set
 some_position zero h = absurd (let z = size-none in omega arith)
 some_position (suc set) h = omega arith
 
--- a set that lies in one of 16 bits is one of 16 bits
-pub in-lt : (one avail : ℕ) → avail < 2 ^ 16 → LiesIn one avail → one < 2 ^ 16
-in-lt one avail fits h = let e = and_by_in one avail h in let le = and_le_r one avail in omega arith
+-- a set that lies in one below a number is below that number
+pub in-lt : (one avail top : ℕ) → avail < top → LiesIn one avail → one < top
+in-lt one avail top fits h = let e = and_by_in one avail h in let le = and_le_r one avail in omega arith

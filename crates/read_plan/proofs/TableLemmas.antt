@@ -12,10 +12,10 @@ use Rattle.gf256.proofs.CallerLemmas.{field_product-sum, field_product-zero, fie
 use Rattle.ec_matrix.proofs.CallerLemmas.{sum_below-same, sum_below-sum, sum_below-zero, dot_front}
 use Rattle.ec_model.specs.Field.{field_product}
 use Rattle.ec_model.specs.Rows.{dot, row_at, entry_at}
-use Rattle.ec_model.specs.Codes.{CodeRows, IsCode, IsColumn, HasPosition, Decides, chunk_of}
+use Rattle.ec_model.specs.Codes.{CodeRows, IsCode, IsColumn, HasPosition, LiesBelow, Decides, chunk_of}
 use Rattle.read_plan.specs.Plans.{LiesIn, IsLeastPlan}
 use Rattle.read_plan.specs.Settling.{IsTable, Settles, IsLeastSettling}
-use Rattle.read_plan.proofs.SetLemmas.{bit-of_zero}
+use Rattle.read_plan.proofs.SetLemmas.{bit-of_zero, in-lt}
 use Rattle.read_plan.proofs.SettlingLemmas.{line_of, line_of-at, line_of-long, line_of-byte}
 
 zero_at : (n r : ℕ) → slice_index (replicate n 0) r ≡ 0
@@ -135,6 +135,10 @@ module _ (code : CodeRows) (rows : List (List ℕ)) (is_code : IsCode code) (tab
 pub plan_decides_if : (code : CodeRows) (avail wanted : ℕ) (found : Option Mask) → IfSome found (λ set. IsLeastPlan code avail wanted set.0) → IfSome found (λ set. LiesIn set.0 avail × Decides code set.0 wanted)
 plan_decides_if code avail wanted None h = h
 plan_decides_if code avail wanted (Some set) h = (h.available, h.decides)
+
+pub below_if : (code : CodeRows) (avail wanted : ℕ) (found : Option Mask) → avail < 2 ^ code.n → IfSome found (λ set. IsLeastPlan code avail wanted set.0) → IfSome found (λ set. LiesBelow code.n set.0)
+below_if code avail wanted None fits h = h
+below_if code avail wanted (Some set) fits h = in-lt set.0 avail (2 ^ code.n) fits h.available
 
 pub none_if : (P : Type 0) (found : Option Mask) → IsNone found → IfNone found P → P
 none_if P None e h = h

@@ -14,6 +14,7 @@ pub fn plan(code: &dyn Code, avail: Mask, wanted: Mask) -> Option<Mask>
     requires avail { LiesBelow (meaning code.now).n avail.0 }
     requires wanted { LiesBelow (meaning code.now).n wanted.0 }
     ensures some { IfSome result (λ set. LiesIn set.0 avail.0 × Decides (meaning code.now) set.0 wanted.0) }
+    ensures below { IfSome result (λ set. LiesBelow (meaning code.now).n set.0) }
     ensures least { (LiesIn wanted.0 avail.0 → ⊥)
         → IfSome result (λ set. IsLeastPlan (meaning code.now) avail.0 wanted.0 set.0) }
     ensures itself { LiesIn wanted.0 avail.0 → result ≡ Some wanted }

@@ -2,7 +2,8 @@
 //! chunks out.
 //!
 //! The columns that a coding row leaves out are a window, which moves on from row to row and goes round from the last column
-//! to the first ([`shec_entry`]). With c = m no row leaves a column out.
+//! to the first ([`shec_entry`]). With c = m no row leaves a column out. Each data chunk is in exactly c coding chunks, by the
+//! law [`each_data_chunk_is_in_c_coding_chunks`].
 //!
 //! Headline: after `Shec::init` with Ok the coding rows are those of reed_sol_van for the profile's k and m, with zeros in the
 //! windows of k, m and c; a profile that has a fault is refused by the first in the order.
@@ -12,8 +13,10 @@
 
 mod code;
 mod counts;
+mod laws;
 mod rows;
 mod windows;
 
 pub use code::Shec;
+pub use laws::each_data_chunk_is_in_c_coding_chunks;
 pub use rows::shec_entry;

@@ -2,9 +2,12 @@
 
 use ec_code::Code;
 use ec_words::{Bytes, NoMemory};
+use lrc_layers::Lrc;
+use plugin_reg::has_each_plugin;
 use pool_run::{Status, ecpool};
 use rig_disk::{MemRig, MemSource};
 use rs_van::RsVan;
+use shec_matrix::Shec;
 use std::alloc::{AllocError, Global};
 use std::test::Fail;
 
@@ -24,16 +27,21 @@ pub fn status_of(
     Ok(answered(alloc, &list, rig, &mut source)?.0)
 }
 
-// Makes the boxes, as the program does, and calls.
+// Makes the boxes, as the program does, and calls. Each plugin has its box, so the test of it never fails.
 fn answered(
     alloc: Global,
     words: &[String],
     rig: &mut MemRig,
     source: &mut MemSource,
 ) -> Result<Status, NoMemory> {
-    let mut codes: Vec<Box<dyn Code>> = Vec::new(alloc);
-    codes.push(Box::new(alloc, RsVan::new())?)?;
-    Ok(ecpool(alloc, words, &mut codes, rig, source))
+    let mut boxes: Vec<Box<dyn Code>> = Vec::new(alloc);
+    boxes.push(Box::new(alloc, RsVan::new())?)?;
+    boxes.push(Box::new(alloc, Lrc::new())?)?;
+    boxes.push(Box::new(alloc, Shec::new())?)?;
+    if !has_each_plugin(&boxes) {
+        return Err(NoMemory);
+    }
+    Ok(ecpool(alloc, words, &mut boxes, rig, source))
 }
 
 fn texts(alloc: Global, words: &[&str]) -> Result<Vec<String>, AllocError> {

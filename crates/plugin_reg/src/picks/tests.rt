@@ -1,7 +1,9 @@
 //! Boxes that are picked, and boxes that are left alone.
 use super::*;
-use ec_code::{Plugin, Shape};
+use ec_code::{Key, Plugin, Shape, Technique};
+use lrc_layers::Lrc;
 use rs_van::RsVan;
+use shec_matrix::Shec;
 use std::alloc::Global;
 use std::test::Fail;
 
@@ -56,6 +58,48 @@ fn the_first_box_of_the_plugin_is_made(rt: HostRuntime) -> Result<(), Fail> {
     assert_eq!(rt; picked, Ok(0));
     assert_eq!(rt; shape_of(&codes, 0), FOUR_AND_TWO);
     assert_eq!(rt; shape_of(&codes, 1), BEFORE);
+    Ok(())
+}
+
+// k = 4, m = 2, l = 3 has two groups of 4 positions; k = 4, m = 3, c = 2 has 7 positions.
+#[test]
+fn each_plugin_has_its_box(rt: HostRuntime) -> Result<(), Fail> {
+    let alloc = rt.alloc();
+    let mut codes = two_boxes(alloc)?;
+    codes.push(Box::new(alloc, Shec::new())?)?;
+    codes.push(Box::new(alloc, Lrc::new())?)?;
+    let lrc = Profile {
+        l: Some(3),
+        ..profile(Plugin::Lrc, 4, 2)
+    };
+    assert_eq!(rt; pick(&mut codes, &lrc), Ok(3));
+    let shec = Profile {
+        c: Some(2),
+        technique: Some(Technique::Single),
+        ..profile(Plugin::Shec, 4, 3)
+    };
+    assert_eq!(rt; pick(&mut codes, &shec), Ok(2));
+    assert_eq!(rt;
+        pick(&mut codes, &profile(Plugin::Shec, 4, 3)),
+        Err(ProfileFault::Missing(Key::C))
+    );
+    assert_eq!(rt; shape_of(&codes, 0), BEFORE);
+    assert_eq!(rt;
+        shape_of(&codes, 2),
+        Some(Shape {
+            k: 4,
+            n: 7,
+            lead: 4
+        })
+    );
+    assert_eq!(rt;
+        shape_of(&codes, 3),
+        Some(Shape {
+            k: 4,
+            n: 8,
+            lead: 4
+        })
+    );
     Ok(())
 }
 

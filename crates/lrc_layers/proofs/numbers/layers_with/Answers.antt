@@ -9,8 +9,8 @@ use Rattle.lrc_layers.proofs.numbers.layers_with.Goals as goal
 
 pub loop-h-init : goal.loop-h-init
 loop-h-init c = (
-  omega (arith, c.add.ensures.count, c.new-layers.ensures),
-  text_of_added (global_mark c.args.d c.args.l) c.global_marks.result c.args.n c.add.new.self.each c.new-layers.result.count 0 c.new-layers.ensures
+  omega (arith, c.add.ensures.count, c.new-layers.ensures.count),
+  text_of_added (global_mark c.args.d c.args.l) c.global_marks.result c.args.n c.add.new.self.each c.new-layers.result.count 0 c.new-layers.ensures.count
       c.add.ensures.layer c.global_marks.ensures.long c.requires.n c.global_marks.ensures.value,
   λ g lt. absurd (omega (arith, lt)),
 )

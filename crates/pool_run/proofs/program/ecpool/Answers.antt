@@ -78,3 +78,12 @@ returns-in-ShowInput-clause-refused g c = λ profile f asks is.
 pub returns-in-ShowInput-clause-status_2 : goal.returns-in-ShowInput-clause-status_2
 returns-in-ShowInput-clause-status_2 g c =
     not_2 _ c.show_input.result.0 _ _ (λ wrong. (wrong _).1 c.in-ShowInput.ensures) (λ e. grind (arith, e, c.show_input.ensures.statuses))
+
+pub try_profile-requires : goal.try_profile-requires
+try_profile-requires g c = λ q. rw c.deref_mut.ensures.value (c.requires q)
+
+pub show_profile-requires : goal.show_profile-requires
+show_profile-requires g c = λ q. rw c.deref_mut-in-Show.ensures.value (c.requires q)
+
+pub show_input-requires : goal.show_input-requires
+show_input-requires g c = λ q. rw c.deref_mut-in-ShowInput.ensures.value (c.requires q)
