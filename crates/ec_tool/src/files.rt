@@ -1,0 +1,31 @@
+//! Files, read and written whole.
+ghost use Rattle.std.specs.Prelude.{◌≡◌, ◌≤◌, ℕ, List, Option, length, IfOk};
+ghost use Rattle.rig_disk.specs.Faults.{HasCause};
+ghost use Rattle.ec_tool.specs.Files.{FileMap, HasReadCause, Reads, Writes};
+
+use crate::{FileFault, MAX_FILE};
+use ec_words::Bytes;
+use rig_disk::Failed;
+use std::alloc::Global;
+
+/// Files by their names, read and written whole.
+pub trait Files {
+    /// The files with their bytes, where the implementor tells them.
+    ghost files: { Self → Option FileMap };
+
+    /// How often a call has failed. It is always told.
+    ghost faults: { Self → ℕ };
+
+    /// All bytes of a file. It changes no file.
+    fn read_file(&mut self, alloc: Global, name: &str) -> Result<Bytes, FileFault>
+        ensures value { Reads (files self.old) name.now result }
+        ensures bound { IfOk result (λ bytes. length bytes ≤ MAX_FILE) }
+        ensures kept { files self.new ≡ files self.old }
+        ensures cause { HasReadCause (faults self.old) (faults self.new) result };
+
+    /// Makes these the bytes of a file, which need not be there. After `Failed` that file may have any bytes, or be
+    /// there or not; all others stay.
+    fn write_file(&mut self, name: &str, bytes: &[u8]) -> Result<(), Failed>
+        ensures written { Writes (files self.old) (files self.new) name.now bytes.now result }
+        ensures cause { HasCause (faults self.old) (faults self.new) result };
+}

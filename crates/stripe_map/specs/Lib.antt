@@ -1,0 +1,6 @@
+pub mod Chunks
+pub mod Decoding
+pub mod DecodingLaws
+pub mod Encoding
+pub mod Sizes
+pub mod Touch

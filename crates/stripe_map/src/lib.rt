@@ -1,0 +1,29 @@
+//! How an object lies in stripes: sizes of chunks, the stripes that a range of bytes touches, the chunks of each position, and the
+//! object that chunks give.
+//!
+//! Headline: the chunks that [`encode_object`] gives are those of the position, by `IsPositionList` of ec_model's
+//! specs/Codes.antt, and [`decode_object`] gives the object of such chunks exactly where their positions decide the data
+//! positions.
+//!
+//! With two data chunks and a unit of 4 bytes the object 1, 2, .., 9 has two stripes: 1 to 8, and 9 with seven zeros. Its
+//! chunks at data position 1 are 5, 6, 7, 8, 0, 0, 0, 0, and the bytes 7 and 8 and the next touch both stripes.
+#![tactic(auto)]
+
+mod chunks;
+mod combining;
+mod decoding;
+mod encoding;
+mod joining;
+mod laws;
+mod lengths;
+mod limits;
+mod sizes;
+mod touch;
+
+pub use chunks::Chunks;
+pub use decoding::{DecodeFault, decode_object};
+pub use encoding::encode_object;
+pub use laws::data_positions_are_a_mask;
+pub use limits::{ALIGNMENT, MAX_BUFFER, MAX_OBJECT};
+pub use sizes::chunk_size;
+pub use touch::touched;

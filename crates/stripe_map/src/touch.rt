@@ -1,0 +1,44 @@
+//! The stripes that a range of bytes touches. Source: Ceph developer guide, "Erasure Coded pool": a stripe is
+//! `k * stripe_unit` bytes of the object.
+ghost use Rattle.std.specs.Prelude.{◌≡◌, ◌*◌};
+ghost use Rattle.stripe_map.specs.Touch.{IsTouched};
+
+use ec_words::Geometry;
+
+/// The first stripe that has one of the `len` bytes from `off` on, and how many stripes have one: `(0, 0)` where `len` is 0.
+/// A stripe is `g.k * g.unit` bytes.
+pub fn touched(g: Geometry, off: u32, len: u32) -> (u32, u32)
+    ensures value { IsTouched (g.k * g.unit) off len result.0 result.1 }
+    ensures none { len ≡ 0 → result ≡ (0, 0) }
+{
+    if len == 0 {
+        return (0, 0);
+    }
+    let width = u64::from(g.k) * u64::from(g.unit);
+    let first = u64::from(off) / width;
+    let last = (u64::from(off) + u64::from(len) - 1) / width;
+    (first as u32, (last - first + 1) as u32)
+}
+
+#[cfg(test)]
+mod tests {
+    use super::*;
+
+    // By hand: a stripe has 64 bytes. (2^32 - 1) / 64 is 67,108,863, and (2^33 - 3) / 64 is 134,217,727.
+    #[test]
+    fn a_byte_past_the_stripe_touches_the_next(rt: HostRuntime) {
+        let g = Geometry { k: 2, unit: 32 };
+        for (off, len, stripes) in [
+            (0, 0, (0, 0)),
+            (70, 0, (0, 0)),
+            (0, 64, (0, 1)),
+            (0, 65, (0, 2)),
+            (63, 1, (0, 1)),
+            (63, 2, (0, 2)),
+            (64, 64, (1, 1)),
+            (u32::MAX, u32::MAX, (67_108_863, 67_108_865)),
+        ] {
+            assert_eq!(rt; touched(g, off, len), stripes, "{len} bytes at {off}");
+        }
+    }
+}
