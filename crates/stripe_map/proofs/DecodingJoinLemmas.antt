@@ -8,6 +8,7 @@ use Rattle.std.proofs.Math.Nat.{suc-mul}
 use Rattle.ec_model.specs.Stripes.{chunk_at, stripe_count, shard_len}
 use Rattle.ec_model.proofs.StripeLemmas.{flat_map-range_more}
 use Rattle.stripe_map.specs.Decoding.{list_at, stripe_of, stripes_of, HaveLength}
+use Rattle.stripe_map.proofs.EncodingLemmas.{times_next}
 
 -- one piece more
 pub pieces_more : (f : ℕ → List ℕ) (first old new piece : List ℕ) (j : ℕ) → old ≡ first ++ flat_map f (range_with_len 0 j) → new ≡ old ++ piece → piece ≡ f j
@@ -23,9 +24,6 @@ pieces_more f first old new piece j so_far more is =
 pub list_read : {X : Type 0} (items : X → List ℕ) (lists : List X) (j : ℕ) (x : X) (list : List ℕ) → list ≡ items x → x ≡ get_or lists j x
     → j < length lists → list ≡ list_at (map items lists) j
 list_read {X} items lists j x list shown is lt = shown ∙ sym (get_or-map items lists j x [] lt ∙ sym (ap items is))
-
-times_next : (n unit : ℕ) → (n + 1) * unit ≡ n * unit + unit
-times_next n unit = grind arith
 
 -- a stripe's chunk lies inside each list
 pub chunk_inside : (k unit size t j : ℕ) (lists : List (List ℕ)) → HaveLength k (shard_len k unit size) lists → t < stripe_count k unit size → j < k

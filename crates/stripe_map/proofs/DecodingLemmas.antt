@@ -16,6 +16,7 @@ use Rattle.ec_model.proofs.StripeLemmas.{flat_map_same, chunks_in_a_row, length-
 use Rattle.gf256.proofs.CallerLemmas.{zero-field_product, one-field_product, field_product_comm, field_product_assoc}
 use Rattle.ec_matrix.proofs.CallerLemmas.{sum_below-same, sum_below-single, sum_below-times, sum_below-exchange}
 use Rattle.stripe_map.specs.Decoding.{list_at, stripe_of, stripes_of, AreDataLists}
+use Rattle.stripe_map.proofs.EncodingLemmas.{times_next}
 
 -- a sum of multiples of rows, times some bytes: the sum of the multiples of the rows' products with them
 combined_sum : (n k : ℕ) (c w d : ℕ → ℕ) (e : ℕ → ℕ → ℕ) → ((j : ℕ) → j < k → sum_below n (λ q. field_product (c q) (e q j)) ≡ w j)
@@ -56,9 +57,6 @@ sum_is_position_list code unit bytes from p c lists list few makes each long sum
       ])
       ∙ sym (combined_sum code.n code.k (slice_index c) (entry_at code.rows p) (λ j. slice_index (padded code.k unit bytes) ((t * code.k + j) * unit + b)) (entry_at code.rows) makes.makes);
 }
-
-times_next : (n unit : ℕ) → (n + 1) * unit ≡ n * unit + unit
-times_next n unit = grind arith
 
 -- a byte of a chunk in a list of chunks
 chunk_byte : (unit : ℕ) (list : List ℕ) (index b : ℕ) → b < unit → slice_index (chunk_at unit list index) b ≡ slice_index list (index * unit + b)

@@ -14,7 +14,7 @@ use Rattle.ec_code.specs.Encoding.{IsChunk}
 use Rattle.ec_matrix.proofs.CallerLemmas.{sum_below-same}
 use Rattle.stripe_map.specs.Encoding.{last_stripe, HasStripes}
 
-times_next : (n unit : ℕ) → (n + 1) * unit ≡ n * unit + unit
+pub times_next : (n unit : ℕ) → (n + 1) * unit ≡ n * unit + unit
 times_next n unit = grind arith
 
 -- ---- the last stripe
