@@ -1,2 +1,14 @@
+mod ChunkFileLemmas
+mod DecodeLemmas
+mod DoneLemmas
+mod EncodeLemmas
+mod FetchLemmas
 mod FileLemmas
+mod FileOfLemmas
 mod MapLemmas
+mod ParameterLemmas
+mod PlanLemmas
+mod PositionLemmas
+mod ProfileLemmas
+mod WantedLemmas
+mod WordLemmas

@@ -1,3 +1,16 @@
+pub mod Accesses
+pub mod Chunks
+pub mod Decoding
+pub mod Encoding
 pub mod Files
+pub mod Headline
+pub mod Jobs
 pub mod Laws
 pub mod MemFiles
+pub mod Outcomes
+pub mod Requests
+pub mod Runs
+pub mod Stops
+pub mod Texts
+pub mod Wanted
+pub mod Words

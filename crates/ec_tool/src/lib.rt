@@ -5,12 +5,28 @@
 //! fails where a test plans it; [`DiskFiles`] is the real one, and tells no files.
 #![tactic(auto)]
 
+mod access;
+mod commands;
+mod decoding;
 mod edge;
+mod encoding;
 mod fault;
 mod files;
+mod geometry;
 mod laws;
 mod limits;
 mod mem_files;
+mod naming;
+mod parameters;
+mod positions;
+mod program;
+mod request;
+mod saying;
+mod stop;
+mod stop_lines;
+mod texts;
+mod wanted;
+mod words;
 
 pub use edge::DiskFiles;
 pub use fault::FileFault;
@@ -18,3 +34,4 @@ pub use files::Files;
 pub use laws::{answers_are_exact, written_files_are_found};
 pub use limits::MAX_FILE;
 pub use mem_files::MemFiles;
+pub use program::{ToolStatus, tool};

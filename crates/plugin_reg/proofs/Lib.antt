@@ -3,6 +3,7 @@ pub mod CanonicalLemmas
 pub mod FormLemmas
 mod KeyLemmas
 pub mod LayerLemmas
+pub mod OpeningLemmas
 mod PrintLemmas
 pub mod PushLemmas
 pub mod SettingLemmas

@@ -1,3 +1,4 @@
 pub mod Canonical
 pub mod Laws
+pub mod Opening
 pub mod SettingTexts

@@ -12,6 +12,7 @@ mod forms;
 mod json;
 mod laws;
 mod layers;
+mod opening;
 mod picks;
 mod printing;
 mod reading;
@@ -19,6 +20,7 @@ mod settings;
 
 pub use json::{read_any, read_profile_json};
 pub use laws::{lines_are_read_back, read_profiles_are_writable};
-pub use picks::{has_each_plugin, pick};
+pub use opening::{Opened, open_profile, print_fault};
+pub use picks::{has_box, has_each_plugin, pick};
 pub use printing::print_profile;
 pub use reading::{RegFault, read_profile};

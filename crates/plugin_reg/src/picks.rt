@@ -19,14 +19,21 @@ fn first_named(codes: &[Box<dyn Code>], name: &str) -> Option<usize>
     None
 }
 
+/// Whether some box goes by a name.
+pub fn has_box(codes: &[Box<dyn Code>], name: &str) -> bool
+    ensures { IsTrue result ↔ ((i : ℕ) × (i < length codes.now) × ((d : _) → plugin_name (slice_index_or codes.now i d) ≡ name.now)) }
+{
+    match first_named(codes, name) {
+        Some(_) => true,
+        None => false,
+    }
+}
+
 // Whether a plugin has a box.
 fn has_plugin(codes: &[Box<dyn Code>], plugin: Plugin) -> bool
     ensures { IsTrue result ↔ ((i : ℕ) × (i < length codes.now) × ((d : _) → plugin_name (slice_index_or codes.now i d) ≡ name_of plugin)) }
 {
-    match first_named(codes, plugin.name()) {
-        Some(_) => true,
-        None => false,
-    }
+    has_box(codes, plugin.name())
 }
 
 /// Whether each plugin has a box.

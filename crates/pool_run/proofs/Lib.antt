@@ -1,8 +1,8 @@
 mod GrammarLemmas
 mod KeptLemmas
+mod LengthLemmas
 pub mod LineLemmas
 mod MapLemmas
-mod PositionLemmas
 mod ProfileLemmas
 mod RequestLemmas
 mod RunLemmas

@@ -1,52 +1,68 @@
--- The lists of an object's positions, as they are made and as they are joined.
-use Rattle.std.proofs.Common.{◌≡◌, ℕ, ◌+◌, ◌<◌, ◌≤◌, List, [], ◌++◌, length, map, take, drop, get_or, set, sym, ap, ◌∙◌, append_assoc, arith, inl, inr}
-use Rattle.std.specs.List.{flat_map, range_with_len}
-use Rattle.std.proofs.lemmas.Bool.{cases_eq}
-use Rattle.std.proofs.lemmas.List.{get_or-map, get_or-set_same, get_or-set_other, map-set, length-map, take_at}
-use Rattle.ec_model.specs.Stripes.{chunk_at}
-use Rattle.ec_model.proofs.StripeLemmas.{flat_map-range_more}
-use Rattle.pool_run.specs.Stored.{list_at}
+-- The chunks of an object's positions, as they are made and as they are read.
+use Rattle.std.proofs.Common.{◌≡◌, ◌<◌, ◌+◌, ◌-◌, ◌^◌, ℕ, List, Option, Some, None, is_some, true, sym, ap, subst, ◌∙◌, arith, inl, inr}
+use Rattle.std.proofs.lemmas.Bool.{cases_eq, cases_lt}
+use Rattle.std.proofs.lemmas.Nat.{pow_pos}
+use Rattle.std.proofs.lemmas.Nat.Bits.{bit_at_ones, bit_at_ones_above}
+use Rattle.ec_model.specs.Codes.{CodeRows, IsCode, HasPosition, IsPositionList}
+use Rattle.stripe_map.specs.Chunks.{chunk_of_position, KeepsOthers}
+use Rattle.stripe_map.specs.Decoding.{IsMaskOf, HaveMaskBelow, DecideData, ArePositionLists}
+use Rattle.pool_run.specs.Stored.{HaveChunksBelow}
 
--- one more list has got its chunk
-pub chunk_appended : {X : Type 0} (items : X → List ℕ) (old : List X) (first : List (List ℕ)) (chunks : List ℕ) (unit p : ℕ) (d y : X) (chunk : List ℕ) → p < length old
-    → items y ≡ items (get_or old p d) ++ chunk → chunk ≡ chunk_at unit chunks p
-    → ((q : ℕ) → q < p → list_at (map items old) q ≡ list_at first q ++ chunk_at unit chunks q)
-    → ((q : ℕ) → p ≤ q → list_at (map items old) q ≡ list_at first q)
-    → (q : ℕ) → q < p + 1 → list_at (map items (set old p y)) q ≡ list_at first q ++ chunk_at unit chunks q
-chunk_appended {X} items old first chunks unit p d y chunk lt more is done left q below = elim (cases_eq q p) [
-  | inl e ↦ rw e (here ∙ more ∙ (λ i. (sym (get_or-map items old p d [] lt) ∙ left p (omega arith)) i ++ is i))
-  | inr ne ↦ others_kept items old p y q ne ∙ done q (earlier q below ne)
-]
-  where
-    here : list_at (map items (set old p y)) p ≡ items y
-    here = ap (λ l. list_at l p) (map-set items old p y) ∙ get_or-set_same (map items old) p (items y) [] (omega (arith, length-map old items))
+-- the lists of exactly the positions below `count` are there
+pub record ListsBelow (code : CodeRows) (unit : ℕ) (bytes : List ℕ) (chunks : List (Option (List ℕ))) (count : ℕ) : Type 0 where
+  pub lists : ArePositionLists code unit chunks bytes
+  pub positions : HaveChunksBelow chunks count
 
-    others_kept : (items : X → List ℕ) (old : List X) (p : ℕ) (y : X) (q : ℕ) → (q ≡ p → ⊥) → list_at (map items (set old p y)) q ≡ list_at (map items old) q
-    others_kept items old p y q ne = ap (λ l. list_at l q) (map-set items old p y) ∙ get_or-set_other (map items old) p q (items y) [] ne
+none_there : {X : Type 0} → is_some {T = List ℕ} None ≡ true → X
+none_there e = absurd (cc)
 
-    earlier : (q : ℕ) → q < p + 1 → (q ≡ p → ⊥) → q < p
-    earlier q lt ne = grind arith
+pub no_lists : (code : CodeRows) (unit : ℕ) (bytes : List ℕ) (chunks : List (Option (List ℕ))) → ((p : ℕ) → chunk_of_position chunks p ≡ None) → ListsBelow code unit bytes chunks 0
+no_lists code unit bytes chunks none = record {
+  lists = λ p chunk _ here. none_there (sym (ap is_some (none p)) ∙ ap is_some here);
+  positions = λ p. (λ here. none_there (sym (ap is_some (none p)) ∙ here), λ lt. absurd (omega arith));
+}
 
-pub others_left : {X : Type 0} (items : X → List ℕ) (old : List X) (first : List (List ℕ)) (p : ℕ) (y : X)
-    → ((q : ℕ) → p ≤ q → list_at (map items old) q ≡ list_at first q) → (q : ℕ) → p + 1 ≤ q → list_at (map items (set old p y)) q ≡ list_at first q
-others_left {X} items old first p y left q above =
-    ap (λ l. list_at l q) (map-set items old p y) ∙ get_or-set_other (map items old) p q (items y) [] (λ e. omega arith) ∙ left q (omega arith)
+-- one position more
+pub one_list_more : (code : CodeRows) (unit : ℕ) (bytes : List ℕ) (old new : List (Option (List ℕ))) (p : ℕ) (chunk : List ℕ) → ListsBelow code unit bytes old p
+    → chunk_of_position new p ≡ Some chunk → KeepsOthers old new p → IsPositionList code unit bytes p chunk → ListsBelow code unit bytes new (p + 1)
+one_list_more code unit bytes old new p chunk so_far set others is = record {
+  lists = λ q other lt here. elim (cases_eq q p) [
+    | inl e ↦
+        let same : Some chunk ≡ Some other = sym set ∙ ap (chunk_of_position new) (sym e) ∙ here in
+        let one : chunk ≡ other = cc in
+        subst (λ t. IsPositionList code unit bytes t other) (sym e) (subst (IsPositionList code unit bytes p) one is)
+    | inr ne ↦ so_far.lists q other lt (sym (others q ne) ∙ here)
+  ];
+  positions = λ q. (
+    λ here. elim (cases_eq q p) [
+      | inl e ↦ omega arith
+      | inr ne ↦ let before = (so_far.positions q).0 (ap is_some (sym (others q ne)) ∙ here) in omega arith
+    ],
+    λ lt. elim (cases_eq q p) [
+      | inl e ↦ ap (λ t. is_some (chunk_of_position new t)) e ∙ ap is_some set
+      | inr ne ↦ ap is_some (others q ne) ∙ (so_far.positions q).1 (earlier q lt ne)
+    ],
+  );
+} where
+  earlier : (q : ℕ) → q < p + 1 → (q ≡ p → ⊥) → q < p
+  earlier q lt ne = grind arith
 
--- the list of a data position, as it is read
-pub list_of_place : {X : Type 0} (items : X → List ℕ) (lists : List X) (p place : ℕ) (x : X) (list : List ℕ) → list ≡ items x → x ≡ get_or lists p x
-    → p < length lists → p ≡ place → list ≡ list_at (map items lists) place
-list_of_place {X} items lists p place x list shown is lt at = shown ∙ sym (get_or-map items lists p x [] lt ∙ sym (ap items is)) ∙ ap (list_at (map items lists)) at
+-- the mask of the positions below n
+mask_of_all : (chunks : List (Option (List ℕ))) (n : ℕ) → HaveChunksBelow chunks n → IsMaskOf chunks (2 ^ n - 1)
+mask_of_all chunks n all p = (λ has. (all p).1 (below has), λ here. bit_at_ones n p ((all p).0 here)) where
+  below : HasPosition (2 ^ n - 1) p → p < n
+  below has = elim (cases_lt p n) [
+    | inl lt ↦ lt
+    | inr ge ↦ let none = bit_at_ones_above n p ge in omega arith
+  ]
 
--- a stripe has got one chunk more
-pub stripe_more : (f : ℕ → List ℕ) (first old new chunk : List ℕ) (j : ℕ) → old ≡ first ++ flat_map f (range_with_len 0 j) → new ≡ old ++ chunk → chunk ≡ f j
-    → new ≡ first ++ flat_map f (range_with_len 0 (j + 1))
-stripe_more f first old new chunk j so_far more is =
-    let at : j ≡ 0 + j = omega arith in
-    more
-    ∙ (λ i. so_far i ++ (is ∙ ap f at) i)
-    ∙ append_assoc first (flat_map f (range_with_len 0 j)) (f (0 + j))
-    ∙ ap (λ l. first ++ l) (sym (flat_map-range_more f 0 j))
+pub mask_below : (chunks : List (Option (List ℕ))) (n : ℕ) → HaveChunksBelow chunks n → HaveMaskBelow chunks n
+mask_below chunks n all = record { mask = 2 ^ n - 1; is_theirs = mask_of_all chunks n all; below = omega (arith, pow_pos n) }
 
--- what is written over a list of the same length
-pub written : {X : Type 0} (n : ℕ) (new old : List X) → length new ≡ n → take n (new ++ drop (length new) old) ≡ new
-written {X} n new old long = take_at new (drop (length new) old) n long
+-- all positions decide the data positions, which are among them
+pub data_decided : (code : CodeRows) (chunks : List (Option (List ℕ))) → IsCode code → HaveChunksBelow chunks code.n → DecideData code chunks
+data_decided code chunks is all = record {
+  mask = 2 ^ code.n - 1;
+  is_theirs = mask_of_all chunks code.n all;
+  decides = λ j lt. record { agree = λ one other _ _ same. same _ (is.placed j lt) (bit_at_ones code.n _ (is.placed j lt)) };
+}

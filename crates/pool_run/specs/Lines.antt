@@ -1,5 +1,5 @@
 -- The lines of a script, and the command that each one gives. Source: this project.
-use Rattle.std.specs.Prelude.{ℕ, Bool, false, not, ◌==◌, if◌then◌else◌, List, [], ◌∷◌, length, filter, map, codes, bytes_eq, Option, Some, None, Result, Ok, Err}
+use Rattle.std.specs.Prelude.{◌≤◌, ⊤, ℕ, Bool, false, not, ◌==◌, if◌then◌else◌, List, [], ◌∷◌, length, filter, map, codes, bytes_eq, Option, Some, None, Result, Ok, Err}
 use Rattle.std.specs.List.{slice_split}
 use Rattle.hex.specs.Hex.{decode_of}
 use Rattle.hex.specs.declared.error.FromHexError.{FromHexError}
@@ -40,6 +40,11 @@ command_of_fields others = None
 -- the command that a line gives, if it has one of the forms
 abbrev pub command_of : List ℕ → Option Command
 command_of text = command_of_fields (fields text)
+
+-- the bytes that a command gives an object are at most so many
+abbrev pub WritesAtMost : ℕ → Command → Type 0
+WritesAtMost most (Full name bytes) = length bytes ≤ most
+WritesAtMost most (Get name) = ⊤
 
 -- those of a script's lines
 abbrev pub commands_of : List (List ℕ) → List (Option Command)

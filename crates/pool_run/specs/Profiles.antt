@@ -1,5 +1,5 @@
 -- What is said of a profile. Source: this project.
-use Rattle.std.specs.Prelude.{◌≡◌, ◌≢◌, ◌⊎◌, ◌≤◌, ℕ, List, [], ◌∷◌, ◌++◌, length, map, codes, Option, Some, None, Ok, Err}
+use Rattle.std.specs.Prelude.{◌≡◌, ◌≢◌, ◌⊎◌, ◌≤◌, ℕ, List, [], ◌∷◌, ◌++◌, length, map, codes, Option, Some}
 use Rattle.std.specs.List.{flat_map, range_with_len}
 use Rattle.std.specs.Fmt.{decimal}
 use Rattle.std.specs.Io.KnownBytes.{Appends}
@@ -8,32 +8,13 @@ use Rattle.ec_model.specs.Codes.{CodeRows}
 use Rattle.ec_model.specs.Rows.{entry_at}
 use Rattle.ec_code.specs.declared.profile.Profile.{Profile}
 use Rattle.ec_code.specs.declared.fault.ProfileFault.{ProfileFault}
-use Rattle.ec_code.specs.Faults.{number_of, fault_name_of, carried_key}
-use Rattle.ec_code.specs.JsonProfiles.{profile_of_bytes}
-use Rattle.ec_code.specs.Refusals.{IsAccepted, IsRefusedBy, IsCodeOf}
+use Rattle.ec_code.specs.Refusals.{IsCodeOf}
 use Rattle.plugin_reg.specs.Canonical.{canonical_lines}
+use Rattle.plugin_reg.specs.Opening.{IsRefused, fault_line}
 use Rattle.rig_disk.specs.Said.{SaysFront}
 use Rattle.pool_run.specs.Script.{ReadsAll}
 use Rattle.pool_run.specs.Texts.{OneOf, max_input}
 use Rattle.pool_run.specs.Words.{Words, AskTry, AskProfile, whole_input}
-
--- a text gives an accepted profile
-pub record GivesProfile (text : List ℕ) (p : Profile) : Type 0 where
-  pub read : profile_of_bytes text ≡ Ok p
-  pub accepted : IsAccepted p
-
--- a text is refused by its first fault: it gives no profile, or one with which something is wrong
-abbrev pub IsRefused : List ℕ → ProfileFault → Type 0
-IsRefused text f = (profile_of_bytes text ≡ Err f) ⊎ ((p : Profile) × (profile_of_bytes text ≡ Ok p) × IsRefusedBy p f)
-
--- the key that a fault carries, as a further field
-abbrev pub key_field : Option (List ℕ) → List ℕ
-key_field (Some key) = 32 ∷ key
-key_field None = []
-
--- `profile NUMBER NAME`, and the key where the fault carries one
-abbrev pub fault_line : ProfileFault → List ℕ
-fault_line f = codes "profile " ++ (decimal (number_of f) ++ 32 ∷ (fault_name_of f ++ (key_field (carried_key f) ++ 10 ∷ [])))
 
 -- `row P HEX`: the row of a position, two digits for each data chunk
 abbrev pub row_line : CodeRows → ℕ → List ℕ

@@ -6,16 +6,17 @@ ghost use Rattle.rig_disk.specs.Said.{SaysFront};
 ghost use Rattle.ec_code.specs.Profiles.{name_of};
 ghost use Rattle.ec_code.specs.Refusals.{IsAccepted, IsCodeOf};
 ghost use Rattle.pool_run.specs.Headline.{IsAnswered};
-ghost use Rattle.pool_run.specs.Profiles.{GivesProfile, IsRefused, ShowsProfile, SaysFault, profile_text};
+ghost use Rattle.plugin_reg.specs.Opening.{GivesProfile, IsRefused};
+ghost use Rattle.pool_run.specs.Profiles.{ShowsProfile, SaysFault, profile_text};
 ghost use Rattle.pool_run.specs.Script.{ReadsAll};
 ghost use Rattle.pool_run.specs.Texts.{OneOf, ComesFor, line_of, max_input};
 
-use crate::profiles::{open_profile, print_code, print_fault};
+use crate::profiles::print_code;
 use crate::program::Status;
 use crate::script::{InputFault, read_input, run_script};
 use crate::texts::TOO_LONG;
 use ec_code::{Code, Profile, ProfileFault};
-use plugin_reg::RegFault;
+use plugin_reg::{RegFault, open_profile, print_fault};
 use rig_disk::{Rig, Source, VOICE};
 use std::alloc::Global;
 
@@ -46,7 +47,7 @@ pub fn try_profile<R: Rig, S: Source>(
 {
     match open_profile(alloc, text, codes) {
         Ok(opened) => {
-            let unit = opened.profile.stripe_unit as usize;
+            let unit = opened.profile.stripe_unit;
             try_script(alloc, codes[opened.index].as_ref(), unit, rig, source)
         }
         Err(RegFault::Profile(fault)) => refuse(alloc, &fault, rig),
@@ -58,7 +59,7 @@ pub fn try_profile<R: Rig, S: Source>(
 fn try_script<R: Rig, S: Source>(
     alloc: Global,
     code: &dyn Code,
-    unit: usize,
+    unit: u32,
     rig: &mut R,
     source: &mut S,
 ) -> Status

@@ -1,8 +1,9 @@
 //! The objects of a run, in memory.
-ghost use Rattle.std.specs.Prelude.{◌≡◌, ◌≤◌, IfOk, OnOk, OnErr};
+ghost use Rattle.std.specs.Prelude.{◌≡◌, ◌≤◌, length, IfOk, OnOk, OnErr};
 ghost use Rattle.std.specs.FinMap as map;
 ghost use Rattle.ec_model.specs.Objects.{Objects as ObjectMap, apply_command, reply_to};
-ghost use Rattle.pool_run.specs.Lines.{command_of_line};
+ghost use Rattle.stripe_map.specs.declared.limits.TheConstants.{MAX_OBJECT};
+ghost use Rattle.pool_run.specs.Lines.{command_of_line, WritesAtMost};
 ghost use Rattle.pool_run.specs.Replies.{shown};
 ghost use Rattle.pool_run.specs.Stored.{AreStored, bytes_at};
 
@@ -49,9 +50,10 @@ impl Objects {
     }
 
     /// Does a line and answers it. After an `Err` nothing has changed.
-    pub fn apply(&mut self, line: Line, code: &dyn Code, unit: usize) -> Result<Reply, NoMemory>
+    pub fn apply(&mut self, line: Line, code: &dyn Code, unit: u32) -> Result<Reply, NoMemory>
         requires some { 1 ≤ unit }
         requires few { unit ≤ 65536 }
+        requires within_limit { WritesAtMost MAX_OBJECT (command_of_line line) }
         requires stored { (objects : ObjectMap) × AreStored (meaning code.now) unit objects self.old }
         ensures reply { IfOk result (λ reply. (objects : ObjectMap)
             → AreStored (meaning code.now) unit objects self.old
@@ -78,10 +80,11 @@ impl Objects {
         name: Name,
         bytes: &Bytes,
         code: &dyn Code,
-        unit: usize,
+        unit: u32,
     ) -> Result<(), NoMemory>
         requires some { 1 ≤ unit }
         requires few { unit ≤ 65536 }
+        requires within_limit { length bytes.now ≤ MAX_OBJECT }
         ensures ok { OnOk result ((objects : ObjectMap) → AreStored (meaning code.now) unit objects self.old
             → AreStored (meaning code.now) unit
             (map.insert objects name (record { bytes = bytes.now })) self.new) }
@@ -92,7 +95,7 @@ impl Objects {
         Ok(())
     }
 
-    fn bytes(&self, name: &Name, code: &dyn Code, unit: usize) -> Result<Option<Bytes>, NoMemory>
+    fn bytes(&self, name: &Name, code: &dyn Code, unit: u32) -> Result<Option<Bytes>, NoMemory>
         requires some { 1 ≤ unit }
         requires few { unit ≤ 65536 }
         requires stored { (objects : ObjectMap) × AreStored (meaning code.now) unit objects self.now }

@@ -4,7 +4,8 @@ ghost use Rattle.std.specs.Io.KnownBytes.{Appends};
 ghost use Rattle.rig_disk.specs.Faults.{Rose};
 ghost use Rattle.ec_code.specs.Profiles.{name_of};
 ghost use Rattle.pool_run.specs.Headline.{IsAnswered, status_of};
-ghost use Rattle.pool_run.specs.Profiles.{GivesProfile, IsRefused, AsksToShow, AsksFor, ShowsProfile, SaysFault, IsAskedFor};
+ghost use Rattle.plugin_reg.specs.Opening.{GivesProfile, IsRefused};
+ghost use Rattle.pool_run.specs.Profiles.{AsksToShow, AsksFor, ShowsProfile, SaysFault, IsAskedFor};
 ghost use Rattle.pool_run.specs.Texts.{OneOf, ComesFor, SaysItsLine, line_of, max_input};
 ghost use Rattle.pool_run.specs.Words.{AreWrong, AskTry, AskProfile, Asks, whole_input};
 

@@ -67,11 +67,12 @@ pub fn run_script<R: Rig>(
     alloc: Global,
     script: &[u8],
     code: &dyn Code,
-    unit: usize,
+    unit: u32,
     rig: &mut R,
 ) -> Status
     requires some { 1 ≤ unit }
     requires few { unit ≤ 65536 }
+    requires within { length script.now ≤ max_input }
     ensures statuses { OneOf result.0 (0 ∷ 1 ∷ 9 ∷ 13 ∷ []) }
     ensures run { IsRun script.now result.0 (R.said rig.old) (R.said rig.new) }
     ensures quiet { OneOf result.0 (0 ∷ 1 ∷ []) → R.faults rig.new VOICE ≡ R.faults rig.old VOICE }
@@ -118,12 +119,13 @@ fn run_line<R: Rig>(
     alloc: Global,
     text: &[u8],
     code: &dyn Code,
-    unit: usize,
+    unit: u32,
     objects: &mut Objects,
     rig: &mut R,
 ) -> Result<bool, Stop>
     requires some { 1 ≤ unit }
     requires few { unit ≤ 65536 }
+    requires within { length text.now ≤ max_input }
     requires stored { (all : ObjectMap) × AreStored (meaning code.now) unit all objects.old }
     ensures done { IfOk result (λ done. (all : ObjectMap) → AreStored (meaning code.now) unit all objects.old
         → done ≡ is_done (reply_of all text.now)) }
@@ -154,11 +156,12 @@ fn answer(
     alloc: Global,
     text: &[u8],
     code: &dyn Code,
-    unit: usize,
+    unit: u32,
     objects: &mut Objects,
 ) -> Result<Reply, NoMemory>
     requires some { 1 ≤ unit }
     requires few { unit ≤ 65536 }
+    requires within { length text.now ≤ max_input }
     requires stored { (all : ObjectMap) × AreStored (meaning code.now) unit all objects.old }
     ensures reply { IfOk result (λ reply. (all : ObjectMap) → AreStored (meaning code.now) unit all objects.old
         → shown reply ≡ reply_of all text.now) }

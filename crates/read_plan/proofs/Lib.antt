@@ -1,5 +1,5 @@
 mod OrderLemmas
 mod SearchLemmas
-mod SetLemmas
+pub mod SetLemmas
 mod SettlingLemmas
 mod TableLemmas

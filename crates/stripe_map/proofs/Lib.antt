@@ -1,7 +1,7 @@
 mod ChunkLemmas
 mod DecodingJoinLemmas
 mod DecodingLemmas
-mod DecodingMaskLemmas
+pub mod DecodingMaskLemmas
 mod DecodingSumLemmas
 mod EncodingLemmas
 mod SizeLemmas

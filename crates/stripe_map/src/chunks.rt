@@ -1,9 +1,11 @@
 //! Chunks by position.
-ghost use Rattle.std.specs.Prelude.{◌≡◌, ◌↔◌, ◌<◌, ℕ, Some, None, length, IsSome};
+ghost use Rattle.std.specs.Prelude.{◌≡◌, ◌↔◌, ◌<◌, ℕ, Some, None, length, IsSome, IsTrue};
 ghost use Rattle.std.specs.Option.{option_copied};
 ghost use Rattle.ec_model.specs.Codes.{HasPosition};
 ghost use Rattle.stripe_map.specs.Chunks.{chunk_of_position, KeepsOthers};
+ghost use Rattle.stripe_map.specs.Decoding.{AllHaveLength};
 
+use crate::lengths::has_length;
 use ec_words::{Bytes, Mask};
 use std::marker::Model;
 
@@ -58,6 +60,33 @@ impl Chunks {
         }
     }
 
+    /// Drops the chunks of all positions outside a set.
+    pub fn keep(&mut self, set: Mask)
+        ensures inside { (p : ℕ) → HasPosition set.0 p
+            → chunk_of_position self.new p ≡ chunk_of_position self.old p }
+        ensures outside { (p : ℕ) → (HasPosition set.0 p → ⊥) → chunk_of_position self.new p ≡ None }
+        ensures long { length self.new ≡ 16 }
+    {
+        for p in 0..16u8 {
+            if !set.has(p) {
+                self.list[p as usize] = None;
+            }
+        }
+    }
+
+    /// Whether each chunk that is there has this length.
+    pub fn have_length(&self, long: usize) -> bool
+        ensures { IsTrue result ↔ AllHaveLength self.now long }
+    {
+        let _ = &self.list;
+        for p in 0..16u8 {
+            if !has_length(self.get(p), long) {
+                return false;
+            }
+        }
+        true
+    }
+
     /// The positions that have a chunk.
     pub fn mask(&self) -> Mask
         ensures value { (p : ℕ) → HasPosition result.0 p ↔ IsSome (chunk_of_position self.now p) }
@@ -96,6 +125,10 @@ mod tests {
             assert_eq!(rt; chunks.mask(), Mask(mask), "at {p}");
         }
         assert!(rt; chunks.get(0) == Some(b"a") && chunks.get(1).is_none());
+        chunks.keep(Mask(0x8006));
+        assert_eq!(rt; chunks.mask(), Mask(0x8000));
+        assert_eq!(rt; chunks.get(15), Some(b"d".as_slice()));
+        assert!(rt; chunks.have_length(1) && !chunks.have_length(2));
         Ok(())
     }
 }

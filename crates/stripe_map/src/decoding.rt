@@ -9,7 +9,6 @@ ghost use Rattle.stripe_map.specs.declared.decoding.DecodeFault.TheVariants.{Not
 use crate::Chunks;
 use crate::combining::data_lists;
 use crate::joining::joined;
-use crate::lengths::all_have_length;
 use ec_code::{Code, combine};
 use ec_words::{Bytes, Geometry, Mask, NoMemory};
 use std::alloc::Global;
@@ -62,7 +61,7 @@ pub fn decode_object(
         return Err(DecodeFault::NotDecided);
     }
     let long = shard_len(g, size);
-    if !all_have_length(chunks, long) {
+    if !chunks.have_length(long) {
         return Err(DecodeFault::Lengths);
     }
     let lists = data_lists(alloc, code, chunks, from, long)?;

@@ -13,3 +13,7 @@ mod replies;
 mod run;
 #[cfg(test)]
 mod texts;
+#[cfg(test)]
+mod tool_run;
+#[cfg(test)]
+mod tools;

@@ -1,5 +1,6 @@
 use Rattle.std.proofs.Common.{List, ℕ, sym, ◌∙◌, subst}
-use Rattle.pool_run.specs.Profiles.{GivesProfile, IsRefused, SaysFault}
+use Rattle.plugin_reg.specs.Opening.{GivesProfile, IsRefused}
+use Rattle.pool_run.specs.Profiles.{SaysFault}
 use Rattle.pool_run.proofs.StatusLemmas.{all_taken}
 use Rattle.pool_run.proofs.commands.show_input.Goals as goal
 

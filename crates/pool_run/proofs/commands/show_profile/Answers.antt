@@ -1,5 +1,5 @@
 use Rattle.std.proofs.Common.{Err, ap}
-use Rattle.pool_run.proofs.ProfileLemmas.{given_not_refused}
+use Rattle.plugin_reg.proofs.OpeningLemmas.{given_not_refused}
 use Rattle.pool_run.proofs.commands.show_profile.Goals as goal
 
 pub returns-in-Err-Profile-clause-refused : goal.returns-in-Err-Profile-clause-refused

@@ -1,7 +1,7 @@
 use Rattle.std.proofs.Common.{Err, ap, refl, inl, inr}
 use Rattle.ec_code.proofs.GivenLemmas.{accepted_unit}
 use Rattle.pool_run.proofs.StatusLemmas.{nothing_said}
-use Rattle.pool_run.proofs.ProfileLemmas.{given_not_refused}
+use Rattle.plugin_reg.proofs.OpeningLemmas.{given_not_refused}
 use Rattle.pool_run.proofs.commands.try_profile.Goals as goal
 
 pub try_script-requires-clause-some : goal.try_script-requires-clause-some

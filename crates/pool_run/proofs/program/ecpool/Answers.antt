@@ -1,5 +1,6 @@
 use Rattle.std.proofs.Common.{List, ℕ, inr, sym, subst, ◌∙◌, arith}
-use Rattle.pool_run.specs.Profiles.{GivesProfile, IsRefused, SaysFault}
+use Rattle.plugin_reg.specs.Opening.{GivesProfile, IsRefused}
+use Rattle.pool_run.specs.Profiles.{SaysFault}
 use Rattle.pool_run.proofs.StatusLemmas.{completed, long_script, not_2}
 use Rattle.pool_run.proofs.RequestLemmas.{same_try, wrong_for, try_for, show_for, input_for}
 use Rattle.pool_run.proofs.program.ecpool.Goals as goal

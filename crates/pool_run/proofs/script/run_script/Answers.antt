@@ -1,4 +1,5 @@
 use Rattle.std.proofs.Common.{refl, subst, sym, ap, ◌∙◌, arith, inl, inr, List, ℕ}
+use Rattle.pool_run.proofs.LengthLemmas.{line_within}
 use Rattle.pool_run.proofs.RunLemmas.{Answered, nothing_answered, one_answered, part_answered, whole_answered, stopped, both_done, shown, shown_more, shown_at, shown_all, status_of_done}
 use Rattle.pool_run.proofs.script.run_script.Goals as goal
 use Rattle.pool_run.proofs.script.run_script.Goals.{then-all_done, else-all_done, then-all_done-2, else-all_done-2}
@@ -9,6 +10,10 @@ loop-line-init g c = record {
   quiet = refl;
   slots = λ slot other. refl;
 }
+
+pub run_line-requires-clause-within : goal.run_line-requires-clause-within
+run_line-requires-clause-within g c =
+    line_within c.args.script.now c.deref-line-items.result.now c.loop-line.line-index _ _ (ap shown c.deref-line-items.ensures.value ∙ c.in-Ok.ensures) c.loop-line-test.true c.requires.within
 
 pub loop-line-preserved : goal.loop-line-preserved
 loop-line-preserved g c = record {

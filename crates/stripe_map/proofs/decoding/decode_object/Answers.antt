@@ -20,17 +20,17 @@ returns-then-not-decides_data-clause-lengths g c =
     let known = decide_data code c.args.chunks.now c.mask-from.result.0 c.mask-from.ensures.value in
     (λ e. absurd cc, λ h. absurd (never (c.if-not-decides_data.ensures.value.1 (known.1 h.0))))
 
-pub returns-then-not-all_have_length-clause-not_decided : goal.returns-then-not-all_have_length-clause-not_decided
-returns-then-not-all_have_length-clause-not_decided g c =
+pub returns-then-not-have_length-clause-not_decided : goal.returns-then-not-have_length-clause-not_decided
+returns-then-not-have_length-clause-not_decided g c =
     let code = (goal.Code-dyn g c.args.code.now).meaning c.args.code.now.1 in
     let known = decide_data code c.args.chunks.now c.mask-from.result.0 c.mask-from.ensures.value in
     (λ e. absurd cc, λ h. absurd (h (known.0 (c.if-not-decides_data.ensures.value.0 refl))))
 
-pub returns-then-not-all_have_length-clause-lengths : goal.returns-then-not-all_have_length-clause-lengths
-returns-then-not-all_have_length-clause-lengths g c =
+pub returns-then-not-have_length-clause-lengths : goal.returns-then-not-have_length-clause-lengths
+returns-then-not-have_length-clause-lengths g c =
     let code = (goal.Code-dyn g c.args.code.now).meaning c.args.code.now.1 in
     let known = decide_data code c.args.chunks.now c.mask-from.result.0 c.mask-from.ensures.value in
-    (λ _. (known.0 (c.if-not-decides_data.ensures.value.0 refl), λ h. never (c.if-not-all_have_length.ensures.1 (subst (AllHaveLength c.args.chunks.now) (sym c.shard_len-long.ensures) h))), λ _. refl)
+    (λ _. (known.0 (c.if-not-decides_data.ensures.value.0 refl), λ h. never (c.if-not-have_length.ensures.1 (subst (AllHaveLength c.args.chunks.now) (sym c.shard_len-long.ensures) h))), λ _. refl)
 
 pub data_lists-requires-clause-below : goal.data_lists-requires-clause-below
 data_lists-requires-clause-below g c =

@@ -1,0 +1,64 @@
+//! The program `ceph_ec_tool`: hands the words, the real files and the real output to [`ec_tool::tool`], which decides all,
+//! and ends with its status.
+#![tactic(auto)]
+
+use ec_code::Code;
+use ec_tool::{DiskFiles, ToolStatus, tool};
+use ec_words::NoMemory;
+use lrc_layers::Lrc;
+use plugin_reg::has_each_plugin;
+use rig_disk::FileRig;
+use rs_van::RsVan;
+use shec_matrix::Shec;
+use std::env;
+use std::io::ErrorKind;
+use std::process::ExitCode;
+
+/// The status where memory ran out.
+const NO_MEMORY: u8 = 13;
+
+/// The status where a plugin has no box. No run ends with it: the test that would is there for the proof of what `tool` asks.
+const NO_PLUGIN: u8 = 70;
+
+/// The folder of the rig, of which only the output is used.
+const HERE: &str = ".";
+
+// The words behind the program's name. Where one of them is no text there are none, so that the usage is said.
+fn words(rt: &HostRuntime) -> Result<Vec<String>, NoMemory> {
+    let mut words = Vec::new(rt.alloc());
+    match env::args(rt) {
+        Ok(all) => {
+            for word in all.skip(1) {
+                words.push(word)?;
+            }
+        }
+        Err(fault) if fault.kind() == ErrorKind::OutOfMemory => return Err(NoMemory),
+        Err(_) => {}
+    }
+    Ok(words)
+}
+
+// Makes a box of each plugin, the real files and the real output, and does what the words ask for.
+fn run(rt: HostRuntime, words: &[String]) -> Result<ToolStatus, NoMemory> {
+    let alloc = rt.alloc();
+    let mut boxes: Vec<Box<dyn Code>> = Vec::new(alloc);
+    boxes.push(Box::new(alloc, RsVan::new())?)?;
+    boxes.push(Box::new(alloc, Lrc::new())?)?;
+    boxes.push(Box::new(alloc, Shec::new())?)?;
+    if !has_each_plugin(&boxes) {
+        return Ok(ToolStatus(NO_PLUGIN));
+    }
+    let mut rig = FileRig::open(rt, alloc, HERE)?;
+    let mut files = DiskFiles::new(rt);
+    Ok(tool(alloc, words, &mut boxes, &mut files, &mut rig))
+}
+
+fn main(rt: HostRuntime) -> ExitCode {
+    let Ok(words) = words(&rt) else {
+        return ExitCode::from(NO_MEMORY);
+    };
+    match run(rt, &words) {
+        Ok(status) => ExitCode::from(status.0),
+        Err(NoMemory) => ExitCode::from(NO_MEMORY),
+    }
+}

@@ -1,0 +1,28 @@
+use Rattle.std.proofs.Common.{◌≡◌, ◌≢◌, Option, List, ℕ, Ok, ap, sym, subst, ◌∙◌, arith}
+use Rattle.rig_disk.specs.Faults.{Rose}
+use Rattle.ec_tool.specs.Accesses.{ReadsOrStops}
+use Rattle.ec_tool.specs.Chunks.{AreBelow}
+use Rattle.ec_tool.specs.Encoding.{WritesChunks}
+use Rattle.ec_tool.specs.Files.{FileMap}
+use Rattle.ec_tool.specs.Requests.{job_of}
+use Rattle.ec_tool.specs.Stops.{status_after}
+use Rattle.ec_tool.proofs.EncodeLemmas.{encode_done}
+use Rattle.ec_tool.proofs.encoding.encode_file.Goals as goal
+
+pub returns-clause-value : goal.returns-clause-value
+returns-clause-value g c =
+    let code = (goal.Code-dyn g c.args.code.now).meaning c.args.code.now.1 in
+    let files = g.F.Files.files in
+    let job = job_of c.args.job.now in
+    let result = c.write_chunks.result in
+    let now = files c.write_chunks.new.files in
+    let below0 = subst (λ (w : List ℕ). AreBelow c.shape-shape.result.n w) c.deref.ensures.value c.in_ok-wanted.ensures.below in
+    let below = subst (λ (n : ℕ). AreBelow n job.wanted) c.shape-shape.ensures.0.same_n below0 in
+    let reads = subst (λ (n : List ℕ). ReadsOrStops (files c.args.files.now) n (Ok c.in_ok-bytes.bytes)) c.in_ok-name.ensures.ok c.in_ok-bytes.ensures.value in
+    let writes1 = subst (λ (u : ℕ). WritesChunks code u job.name c.as_slice.result.now c.deref-2.result.now (files c.read.new.files) now result) c.geometry-g.ensures.unit c.write_chunks.ensures.value in
+    let writes2 = subst (λ (b : List ℕ). WritesChunks code job.unit job.name b c.deref-2.result.now (files c.read.new.files) now result) c.as_slice.ensures writes1 in
+    let writes3 = subst (λ (w : List ℕ). WritesChunks code job.unit job.name c.in_ok-bytes.bytes w (files c.read.new.files) now result) (c.deref-2.ensures.value ∙ c.in_ok-wanted.ensures.same ∙ c.deref.ensures.value) writes2 in
+    let writes = subst (λ (b : Option FileMap). WritesChunks code job.unit job.name c.in_ok-bytes.bytes job.wanted b now result) c.in_ok-bytes.ensures.kept writes3 in
+    let quiet = c.in_ok-bytes.ensures.quiet (λ e. omega arith) in
+    encode_done code job (files c.args.files.now) now _ _ c.in_ok-bytes.bytes result below reads writes
+    (λ e. subst (λ (was : ℕ). Rose was (g.F.Files.faults c.write_chunks.new.files)) quiet (c.write_chunks.ensures.failed e)) (λ ne. c.write_chunks.ensures.quiet ne ∙ quiet)

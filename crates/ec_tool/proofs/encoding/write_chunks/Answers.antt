@@ -1,0 +1,12 @@
+use Rattle.std.proofs.Common.{◌∙◌, arith}
+use Rattle.ec_tool.proofs.ChunkFileLemmas.{next_chunks}
+use Rattle.ec_tool.proofs.encoding.write_chunks.Goals as goal
+
+pub loop-i-preserved : goal.loop-i-preserved
+loop-i-preserved g c =
+    let code = (goal.Code-dyn g c.args.code.now).meaning c.args.code.now.1 in
+    let files = g.F.Files.files in (
+      next_chunks code c.args.g.unit c.args.name.now c.args.bytes.now c.args.wanted.now c.loop-i.i (files c.args.files.now) (files c.loop-i.files) (files c.write_chunk.new.files)
+          c.loop-i-test.true c.loop-i.invariant.0 c.in_ok-write_chunk.ensures.value,
+      c.in_ok-write_chunk.ensures.quiet (λ e. omega arith) ∙ c.loop-i.invariant.1,
+    )

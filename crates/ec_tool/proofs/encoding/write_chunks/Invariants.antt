@@ -1,0 +1,10 @@
+use Rattle.std.proofs.Common.{◌≡◌, take}
+use Rattle.ec_tool.specs.Accesses.{Told}
+use Rattle.ec_tool.specs.Encoding.{HasChunks}
+use Rattle.ec_tool.proofs.encoding.write_chunks.Given as goal
+
+abbrev pub invariant-loop-i : goal.invariant-loop-i
+invariant-loop-i g l =
+    let code = (goal.Code-dyn g l.code.now).meaning l.code.now.1 in
+    Told (g.F.Files.files l.initial.files) (g.F.Files.files l.files) (HasChunks code l.g.unit l.name l.bytes (take l.i l.wanted))
+    × (g.F.Files.faults l.files ≡ g.F.Files.faults l.initial.files)

@@ -1,0 +1,6 @@
+use Rattle.std.specs.Prelude.{codes}
+use Rattle.ec_tool.proofs.WordLemmas.{from_none, wrong_decode}
+use Rattle.ec_tool.proofs.words.decode_request.Goals as goal
+
+pub returns-in-None : goal.returns-in-None
+returns-in-None c = λ words are. wrong_decode words _ are (λ job ask. from_none _ c.in_ok-coding.ensures.none c.in-None.is (codes "decode") words job are ask)

@@ -1,0 +1,44 @@
+-- One file read or written, or the reason to stop. Source: this project.
+use Rattle.std.specs.Prelude.{◌≡◌, ◌<◌, ◌≤◌, ⊤, ℕ, List, length, Option, Some, None, Result, Ok, Err, IsSomeAnd, string_bytes}
+use Rattle.std.specs.FinMap as map
+use Rattle.ec_tool.specs.Files.{FileMap, KeepsOthers, max_file}
+use Rattle.ec_tool.specs.declared.stop.Stop.{Stop}
+use Rattle.ec_tool.specs.declared.stop.Stop.TheVariants.{Usage, Profile, Missing, Failed, NotDecided, Lengths, TooLong, NoMemory}
+
+-- what an answer says of a file, which may be there, and of its name
+abbrev pub SaysOf : Option (List ℕ) → List ℕ → Result (List ℕ) Stop → Type 0
+SaysOf file name (Ok bytes) = (file ≡ Some bytes) × (length bytes ≤ max_file)
+SaysOf file name (Err (Missing shown)) = (file ≡ None) × (string_bytes shown ≡ name)
+SaysOf file name (Err (TooLong shown)) = IsSomeAnd file (λ bytes. max_file < length bytes) × (string_bytes shown ≡ name)
+SaysOf file name (Err (Failed shown)) = string_bytes shown ≡ name
+SaysOf file name (Err NoMemory) = ⊤
+SaysOf file name (Err _) = ⊥
+
+-- what an answer says where the files are not told: the name alone
+abbrev pub SaysName : List ℕ → Result (List ℕ) Stop → Type 0
+SaysName name (Ok bytes) = ⊤
+SaysName name (Err (Missing shown)) = string_bytes shown ≡ name
+SaysName name (Err (TooLong shown)) = string_bytes shown ≡ name
+SaysName name (Err (Failed shown)) = string_bytes shown ≡ name
+SaysName name (Err NoMemory) = ⊤
+SaysName name (Err _) = ⊥
+
+abbrev pub ReadsOrStops : Option FileMap → List ℕ → Result (List ℕ) Stop → Type 0
+ReadsOrStops (Some files) name result = SaysOf (map.get files name) name result
+ReadsOrStops None name result = SaysName name result
+
+-- the files before and after are so, where they are told; whether they are stays
+abbrev pub Told : Option FileMap → Option FileMap → (FileMap → FileMap → Type 0) → Type 0
+Told (Some old) (Some new) so = so old new
+Told None None so = ⊤
+Told _ _ so = ⊥
+
+-- a failure in writing a file: nothing is said of that one file, and all others stay
+abbrev pub StopsWrite : Option FileMap → Option FileMap → List ℕ → Stop → Type 0
+StopsWrite before now name (Failed shown) = (string_bytes shown ≡ name) × Told before now (λ old new. KeepsOthers old new name)
+StopsWrite before now name _ = ⊥
+
+-- the file of this name has these bytes, and all others stay
+abbrev pub WritesOrStops : {T : Type 0} → Option FileMap → Option FileMap → List ℕ → List ℕ → Result T Stop → Type 0
+WritesOrStops {T} before now name bytes (Ok done) = Told before now (λ old new. new ≡ map.insert old name bytes)
+WritesOrStops {T} before now name bytes (Err stop) = StopsWrite before now name stop

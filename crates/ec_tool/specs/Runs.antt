@@ -1,0 +1,98 @@
+-- What the commands come to, by their words and the files that are there. Source: this project.
+use Rattle.std.specs.Prelude.{◌≡◌, ◌<◌, ◌≤◌, ◌*◌, ◌-◌, ◌%◌, ◌⊎◌, ⊤, ℕ, List, [], ◌∷◌, ◌++◌, length, take, slice_index, codes, bytes_eq, if◌then◌else◌, Option, Some, None}
+use Rattle.std.specs.List.{flat_map}
+use Rattle.std.specs.FinMap as map
+use Rattle.ec_model.specs.Codes.{CodeRows}
+use Rattle.stripe_map.specs.Sizes.{chunk_size_of}
+use Rattle.ec_tool.specs.Files.{FileMap, KeepsOthers, max_file}
+use Rattle.ec_tool.specs.Texts.{usage_line, missing_line, too_long_line, not_decided_line, lengths_line, number_line}
+use Rattle.ec_tool.specs.Words.{Job}
+use Rattle.ec_tool.specs.Chunks.{AreBelow, Written, after, AreChunkFiles, DecideTheData, IsReadPlan, AreReadable, HaveLength, IsDecoded, chunk_name}
+
+-- the parameters that are shown: those that are asked for, or all three
+abbrev pub shown_parameters : List (List ℕ) → List (List ℕ)
+shown_parameters [] = codes "chunk_count" ∷ codes "data_chunk_count" ∷ codes "coding_chunk_count" ∷ []
+shown_parameters (one ∷ more) = one ∷ more
+
+-- the number of a parameter
+abbrev pub parameter_of : CodeRows → List ℕ → ℕ
+parameter_of code text =
+    if bytes_eq text (codes "chunk_count") then code.n
+    else if bytes_eq text (codes "data_chunk_count") then code.k
+    else code.n - code.k
+
+-- `PARAM: VALUE`
+abbrev pub parameter_line : CodeRows → List ℕ → List ℕ
+parameter_line code text = text ++ (codes ": " ++ number_line (parameter_of code text))
+
+abbrev pub parameters_text : CodeRows → List (List ℕ) → List ℕ
+parameters_text code parameters = flat_map (parameter_line code) (shown_parameters parameters)
+
+-- the size of the chunks of an object
+abbrev pub size_text : CodeRows → ℕ → List ℕ
+size_text code size = number_line (chunk_size_of code.lead size)
+
+-- a command stopped: its status, the line that it says, and the files, of which none changed
+abbrev pub Stops : ℕ → List ℕ → ℕ → List ℕ → Option FileMap → Option FileMap → Type 0
+Stops its_status its_line status line before now = (status ≡ its_status) × (line ≡ its_line) × (now ≡ before)
+
+-- what is told of files, where they are told
+abbrev pub WhereTold : Option FileMap → (FileMap → Type 0) → Type 0
+WhereTold (Some files) so = so files
+WhereTold None so = ⊤
+
+-- `encode` of wanted positions that are all of the code's, by the file that is read
+pub record EncodesFiles (code : CodeRows) (job : Job) (status : ℕ) (line : List ℕ) (now : Option FileMap) (files : FileMap) : Type 0 where
+  pub missing : map.get files job.name ≡ None → Stops 4 (missing_line job.name) status line (Some files) now
+  pub too_long : (bytes : List ℕ) → map.get files job.name ≡ Some bytes → max_file < length bytes → Stops 8 (too_long_line job.name) status line (Some files) now
+  pub done : (bytes : List ℕ) → map.get files job.name ≡ Some bytes → length bytes ≤ max_file
+      → (status ≡ 0) × (line ≡ []) × ((written : List Written)
+      × AreChunkFiles code job.unit job.name bytes job.wanted written × (now ≡ Some (after files written)))
+
+-- `encode`: a position that is none of the code's, then the file that is read, and then the chunks of each wanted position.
+-- `before` and `now` are the files, where they are told
+pub record Encodes (code : CodeRows) (job : Job) (before : Option FileMap) (status : ℕ) (line : List ℕ) (now : Option FileMap) : Type 0 where
+  pub outside : (AreBelow code.n job.wanted → ⊥) → Stops 2 usage_line status line before now
+  pub only_outside : status ≡ 2 → AreBelow code.n job.wanted → ⊥
+  pub files : AreBelow code.n job.wanted → WhereTold before (EncodesFiles code job status line now)
+
+-- `encode` was stopped by a failure or by want of memory: the chunks of the first wanted positions were written, and the file
+-- of the next one may have any bytes
+pub record EncodesInPart (code : CodeRows) (job : Job) (files now : FileMap) : Type 0 where
+  pub bytes : List ℕ
+  pub is_read : map.get files job.name ≡ Some bytes
+  pub count : ℕ
+  pub some_left : count < length job.wanted
+  pub written : List Written
+  pub are : AreChunkFiles code job.unit job.name bytes (take count job.wanted) written
+  pub others : KeepsOthers (after files written) now (chunk_name job.name (slice_index job.wanted count))
+
+-- a file of a job: the file itself, or that of a wanted position's chunks
+abbrev pub IsFileOf : Job → List ℕ → Type 0
+IsFileOf job name = (name ≡ job.name) ⊎ ((i : ℕ) × ((i < length job.wanted) × (name ≡ chunk_name job.name (slice_index job.wanted i))))
+
+-- `decode` of listed positions that are all of the code's and decide its data, by the files that are read in turn: then their
+-- lengths, and then the length of what is decoded
+pub record DecodesFiles (code : CodeRows) (job : Job) (status : ℕ) (line : List ℕ) (now : Option FileMap) (files : FileMap) : Type 0 where
+  pub missing : (i : ℕ) → i < length job.wanted → AreReadable files job.name (take i job.wanted)
+      → map.get files (chunk_name job.name (slice_index job.wanted i)) ≡ None
+      → Stops 4 (missing_line (chunk_name job.name (slice_index job.wanted i))) status line (Some files) now
+  pub too_long_chunks : (i : ℕ) (bytes : List ℕ) → i < length job.wanted → AreReadable files job.name (take i job.wanted)
+      → map.get files (chunk_name job.name (slice_index job.wanted i)) ≡ Some bytes → max_file < length bytes
+      → Stops 8 (too_long_line (chunk_name job.name (slice_index job.wanted i))) status line (Some files) now
+  pub lengths : AreReadable files job.name job.wanted → ((long : ℕ) → long % job.unit ≡ 0 → HaveLength files job.name job.wanted long → ⊥)
+      → Stops 7 lengths_line status line (Some files) now
+  pub too_long : (long : ℕ) → AreReadable files job.name job.wanted → long % job.unit ≡ 0 → HaveLength files job.name job.wanted long
+      → max_file < code.k * long → Stops 8 (too_long_line job.name) status line (Some files) now
+  pub done : (long : ℕ) → AreReadable files job.name job.wanted → long % job.unit ≡ 0 → HaveLength files job.name job.wanted long
+      → code.k * long ≤ max_file
+      → (status ≡ 0) × (line ≡ []) × ((plan : ℕ) × (found : List ℕ) × IsReadPlan code job.wanted plan
+      × IsDecoded code job.unit files job.name plan long found × (now ≡ Some (map.insert files job.name found)))
+
+-- `decode`: a position that is none of the code's, then whether the listed ones decide the data, and then the files
+pub record Decodes (code : CodeRows) (job : Job) (before : Option FileMap) (status : ℕ) (line : List ℕ) (now : Option FileMap) : Type 0 where
+  pub outside : (AreBelow code.n job.wanted → ⊥) → Stops 2 usage_line status line before now
+  pub only_outside : status ≡ 2 → AreBelow code.n job.wanted → ⊥
+  pub not_decided : AreBelow code.n job.wanted → (DecideTheData code job.wanted → ⊥) → Stops 6 not_decided_line status line before now
+  pub only_not_decided : status ≡ 6 → DecideTheData code job.wanted → ⊥
+  pub files : AreBelow code.n job.wanted → DecideTheData code job.wanted → WhereTold before (DecodesFiles code job status line now)

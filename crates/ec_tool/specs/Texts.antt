@@ -1,0 +1,50 @@
+-- The lines that the tool says, and its statuses. Source: this project.
+use Rattle.std.specs.Prelude.{◌≡◌, ◌⊎◌, ℕ, List, [], ◌∷◌, ◌++◌, codes, Option}
+use Rattle.std.specs.Fmt.{decimal}
+use Rattle.std.specs.Io.KnownBytes.{Appends}
+use Rattle.rig_disk.specs.Said.{SaysFront}
+
+abbrev pub usage_line : List ℕ
+usage_line = codes "usage: ceph_ec_tool test-plugin-exists, validate-profile, calc-chunk-size, encode, decode\n"
+
+abbrev pub exists_line : List ℕ
+exists_line = codes "exists\n"
+
+abbrev pub unknown_plugin_line : List ℕ
+unknown_plugin_line = codes "unknown plugin\n"
+
+-- a word, and the name of a file
+abbrev pub line_with : List ℕ → List ℕ → List ℕ
+line_with word name = word ++ (32 ∷ name ++ 10 ∷ [])
+
+abbrev pub missing_line : List ℕ → List ℕ
+missing_line name = line_with (codes "missing") name
+
+abbrev pub failed_line : List ℕ → List ℕ
+failed_line name = line_with (codes "failed") name
+
+abbrev pub too_long_line : List ℕ → List ℕ
+too_long_line name = line_with (codes "too long") name
+
+abbrev pub not_decided_line : List ℕ
+not_decided_line = codes "not decided\n"
+
+abbrev pub lengths_line : List ℕ
+lengths_line = codes "lengths\n"
+
+-- a number on a line of its own
+abbrev pub number_line : ℕ → List ℕ
+number_line n = decimal n ++ 10 ∷ []
+
+-- the status is among these
+abbrev pub OneOf : ℕ → List ℕ → Type 0
+OneOf status [] = ⊥
+OneOf status (one ∷ more) = (status ≡ one) ⊎ OneOf status more
+
+-- a run ended with this status and said this line; or the output failed in it; or memory ran out and nothing was said
+pub record EndsWith (status : ℕ) (line : List ℕ) (before now : Option (List ℕ)) (ended : ℕ) : Type 0 where
+  pub statuses : OneOf ended (status ∷ 9 ∷ 13 ∷ [])
+  pub whole : ended ≡ status → Appends before now line
+  pub front : ended ≡ 9 → SaysFront before now line
+  pub silent : ended ≡ 13 → Appends before now []
+  pub out : status ≡ 13 → ended ≡ 13

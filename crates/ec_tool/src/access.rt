@@ -1,0 +1,41 @@
+//! Reading and writing one file, and the reason to stop where that is not possible.
+ghost use Rattle.std.specs.Prelude.{◌≡◌, ◌≢◌, ◌≤◌, ℕ, List, Option, Ok, Err, IfOk, IfErr, IsErr, OnOk, length, string_bytes};
+ghost use Rattle.std.specs.FinMap as map;
+ghost use Rattle.rig_disk.specs.Faults.{Rose};
+ghost use Rattle.ec_tool.specs.Files.{max_file};
+ghost use Rattle.ec_tool.specs.Accesses.{ReadsOrStops, WritesOrStops};
+ghost use Rattle.ec_tool.specs.Stops.{status_after};
+
+use crate::stop::Stop;
+use crate::{FileFault, Files};
+use ec_words::Bytes;
+use std::alloc::Global;
+
+/// All bytes of a file.
+pub fn read<F: Files>(alloc: Global, name: String, files: &mut F) -> Result<Bytes, Stop>
+    ensures value { ReadsOrStops (F.files files.old) (string_bytes name) result }
+    ensures bound { IfOk result (λ bytes. length bytes ≤ max_file) }
+    ensures kept { F.files files.new ≡ F.files files.old }
+    ensures failed { status_after result ≡ 5 → Rose (F.faults files.old) (F.faults files.new) }
+    ensures quiet { status_after result ≢ 5 → F.faults files.new ≡ F.faults files.old }
+{
+    match files.read_file(alloc, &name) {
+        Ok(bytes) => Ok(bytes),
+        Err(FileFault::Missing) => Err(Stop::Missing(name)),
+        Err(FileFault::TooLong) => Err(Stop::TooLong(name)),
+        Err(FileFault::Failed) => Err(Stop::Failed(name)),
+        Err(FileFault::NoMemory) => Err(Stop::NoMemory),
+    }
+}
+
+/// Makes these the bytes of a file.
+pub fn write<F: Files>(name: String, bytes: &[u8], files: &mut F) -> Result<(), Stop>
+    ensures value { WritesOrStops (F.files files.old) (F.files files.new) (string_bytes name) bytes.now result }
+    ensures failed { status_after result ≡ 5 → Rose (F.faults files.old) (F.faults files.new) }
+    ensures quiet { status_after result ≢ 5 → F.faults files.new ≡ F.faults files.old }
+{
+    match files.write_file(&name, bytes) {
+        Ok(()) => Ok(()),
+        Err(_) => Err(Stop::Failed(name)),
+    }
+}

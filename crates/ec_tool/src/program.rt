@@ -1,0 +1,126 @@
+//! The one call of the program `ceph_ec_tool`: all that it does, but for its real files and output.
+ghost use Rattle.std.specs.Prelude.{◌≡◌, ◌≢◌, ◌<◌, ◌⊎◌, ◌∷◌, [], ℕ, length, slice_index_or};
+ghost use Rattle.std.specs.Io.KnownBytes.{Appends};
+ghost use Rattle.rig_disk.specs.Faults.{Rose};
+ghost use Rattle.ec_code.specs.Profiles.{name_of};
+ghost use Rattle.ec_tool.specs.Headline.{IsDone};
+ghost use Rattle.ec_tool.specs.Requests.{Asks};
+ghost use Rattle.ec_tool.specs.Texts.{OneOf, EndsWith, exists_line, unknown_plugin_line};
+
+use crate::Files;
+use crate::commands::{decode, encode, size, validate};
+use crate::request::Request;
+use crate::saying::{end, say, show};
+use crate::texts::{EXISTS, UNKNOWN_PLUGIN, USAGE};
+use crate::words::requested;
+use ec_code::Code;
+use plugin_reg::has_box;
+use rig_disk::{Rig, VOICE};
+use std::alloc::Global;
+
+/// How the program ends: the number is its exit status, which docs/TOOL.md explains.
+#[derive(Clone, Copy, Debug, PartialEq, Eq)]
+pub struct ToolStatus(pub u8);
+
+/// Does what the words of the command line ask for, over these files and this rig's output. `codes` has a box of each plugin; the
+/// first of a profile's plugin becomes the profile's code. Of the rig only the output is used.
+pub fn tool<F: Files, R: Rig>(
+    alloc: Global,
+    words: &[String],
+    codes: &mut Vec<Box<dyn Code>>,
+    files: &mut F,
+    rig: &mut R,
+) -> ToolStatus
+    requires { (q : _) → (i : ℕ) × (i < length codes.old.items) × ((d : _) → plugin_name (slice_index_or codes.old.items i d) ≡ name_of q) }
+    ensures statuses { OneOf result.0 (0 ∷ 1 ∷ 2 ∷ 3 ∷ 4 ∷ 5 ∷ 6 ∷ 7 ∷ 8 ∷ 9 ∷ 13 ∷ []) }
+
+    // The words ask for something, and the run does it; or memory ran out before they were read.
+    ensures headline { ((request : _) × Asks words.now request
+        × IsDone (λ name. (i : ℕ) × (i < length codes.old.items) × ((d : _) → plugin_name (slice_index_or codes.old.items i d) ≡ name)) request
+        (record {
+          status = result.0;
+          said_before = R.said rig.old;
+          said_now = R.said rig.new;
+          before = F.files files.old;
+          now = F.files files.new;
+          was = F.faults files.old;
+          is = F.faults files.new;
+        }))
+        ⊎ ((result.0 ≡ 13) × (files.new ≡ files.old)) }
+
+    // A failure of the files or of the output has its cause, and want of memory says nothing.
+    ensures status_5 { result.0 ≡ 5 → Rose (F.faults files.old) (F.faults files.new) }
+    ensures status_9 { result.0 ≡ 9 → Rose (R.faults rig.old VOICE) (R.faults rig.new VOICE) }
+    ensures silent { result.0 ≡ 13 → Appends (R.said rig.old) (R.said rig.new) [] }
+    ensures quiet_voice { result.0 ≢ 9 → R.faults rig.new VOICE ≡ R.faults rig.old VOICE }
+
+    // No slot's count ever changes. The boxes go by their names.
+    ensures slots { (slot : ℕ) → slot ≢ VOICE → R.faults rig.new slot ≡ R.faults rig.old slot }
+    ensures boxes { length codes.new.items ≡ length codes.old.items }
+    ensures kept { (j : ℕ) (d : _) → plugin_name (slice_index_or codes.new.items j d) ≡ plugin_name (slice_index_or codes.old.items j d) }
+{
+    match requested(alloc, words) {
+        Ok(request) => serve(alloc, &request, codes, files, rig),
+        Err(_) => ToolStatus(13),
+    }
+}
+
+// Does what was asked for.
+fn serve<F: Files, R: Rig>(
+    alloc: Global,
+    request: &Request,
+    codes: &mut [Box<dyn Code>],
+    files: &mut F,
+    rig: &mut R,
+) -> ToolStatus
+    requires asked { (words : _) × Asks words request.now }
+    requires boxes { (q : _) → (i : ℕ) × (i < length codes.old) × ((d : _) → plugin_name (slice_index_or codes.old i d) ≡ name_of q) }
+    ensures statuses { OneOf result.0 (0 ∷ 1 ∷ 2 ∷ 3 ∷ 4 ∷ 5 ∷ 6 ∷ 7 ∷ 8 ∷ 9 ∷ 13 ∷ []) }
+    ensures done { IsDone (λ name. (i : ℕ) × (i < length codes.old) × ((d : _) → plugin_name (slice_index_or codes.old i d) ≡ name)) request.now
+        (record {
+          status = result.0;
+          said_before = R.said rig.old;
+          said_now = R.said rig.new;
+          before = F.files files.old;
+          now = F.files files.new;
+          was = F.faults files.old;
+          is = F.faults files.new;
+        }) }
+    ensures status_5 { result.0 ≡ 5 → Rose (F.faults files.old) (F.faults files.new) }
+    ensures status_9 { result.0 ≡ 9 → Rose (R.faults rig.old VOICE) (R.faults rig.new VOICE) }
+    ensures silent { result.0 ≡ 13 → Appends (R.said rig.old) (R.said rig.new) [] }
+    ensures quiet_voice { result.0 ≢ 9 → R.faults rig.new VOICE ≡ R.faults rig.old VOICE }
+    ensures slots { (slot : ℕ) → slot ≢ VOICE → R.faults rig.new slot ≡ R.faults rig.old slot }
+    ensures boxes { length codes.new ≡ length codes.old }
+    ensures kept { (j : ℕ) (d : _) → plugin_name (slice_index_or codes.new j d) ≡ plugin_name (slice_index_or codes.old j d) }
+{
+    match request {
+        Request::Wrong => say(rig, USAGE, 2),
+        Request::Exists(plugin) => test_plugin(plugin, codes, rig),
+        Request::Validate(profile, parameters) => {
+            show(alloc, &validate(alloc, profile, parameters, codes), rig)
+        }
+        Request::Size(profile, bytes) => show(alloc, &size(alloc, profile, *bytes, codes), rig),
+        Request::Encode(job) => end(alloc, &encode(alloc, job, codes, files), rig),
+        Request::Decode(job) => end(alloc, &decode(alloc, job, codes, files), rig),
+    }
+}
+
+// Says whether a plugin is there.
+fn test_plugin<R: Rig>(plugin: &str, codes: &[Box<dyn Code>], rig: &mut R) -> ToolStatus
+    ensures there { ((i : ℕ) × (i < length codes.now) × ((d : _) → plugin_name (slice_index_or codes.now i d) ≡ plugin.now))
+        → EndsWith 0 exists_line (R.said rig.old) (R.said rig.new) result.0 }
+    ensures unknown { (((i : ℕ) × (i < length codes.now) × ((d : _) → plugin_name (slice_index_or codes.now i d) ≡ plugin.now)) → ⊥)
+        → EndsWith 1 unknown_plugin_line (R.said rig.old) (R.said rig.new) result.0 }
+    ensures known { ((i : ℕ) × (i < length codes.now) × ((d : _) → plugin_name (slice_index_or codes.now i d) ≡ plugin.now))
+        ⊎ (((i : ℕ) × (i < length codes.now) × ((d : _) → plugin_name (slice_index_or codes.now i d) ≡ plugin.now)) → ⊥) }
+    ensures voice { result.0 ≡ 9 → Rose (R.faults rig.old VOICE) (R.faults rig.new VOICE) }
+    ensures quiet { result.0 ≢ 9 → R.faults rig.new VOICE ≡ R.faults rig.old VOICE }
+    ensures slots { (slot : ℕ) → slot ≢ VOICE → R.faults rig.new slot ≡ R.faults rig.old slot }
+{
+    if has_box(codes, plugin) {
+        say(rig, EXISTS, 0)
+    } else {
+        say(rig, UNKNOWN_PLUGIN, 1)
+    }
+}

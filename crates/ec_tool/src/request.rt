@@ -1,0 +1,22 @@
+//! What the words ask for.
+
+/// What files are to be coded: by the code of a profile, in stripes of units of `unit` bytes, the chunks of some positions.
+/// `name` is the file; the chunks of position P are in `name.P`.
+#[derive(Debug, Drop)]
+pub struct Coding<'a> {
+    pub profile: &'a str,
+    pub unit: u64,
+    pub wanted: Vec<u64>,
+    pub name: &'a str,
+}
+
+/// What the words ask for.
+#[derive(Debug, Drop)]
+pub enum Request<'a> {
+    Wrong,
+    Exists(&'a str),
+    Validate(&'a str, &'a [String]),
+    Size(&'a str, u64),
+    Encode(Coding<'a>),
+    Decode(Coding<'a>),
+}

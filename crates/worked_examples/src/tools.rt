@@ -1,0 +1,166 @@
+//! Examples 20 to 23: the tool over files.
+
+use crate::tool_run::{ended, four_units, is_filled};
+use ec_tool::MemFiles;
+use rig_disk::MemRig;
+use std::alloc::Global;
+use std::test::Fail;
+
+const LAYERED: &str =
+    "plugin=lrc,mapping=__DD__DD,layers=[ [ \"_cDD_cDD\", \"\" ], [ \"cDDD____\", \"\" ], [ \"____cDDD\", \"\" ], ]";
+
+const USAGE: &[u8] =
+    b"usage: ceph_ec_tool test-plugin-exists, validate-profile, calc-chunk-size, encode, decode\n";
+
+// From the rule: the names of the plugins, the numbers of a code, and chunks of a multiple of 32 bytes.
+#[test]
+fn example_20_what_needs_no_file(rt: HostRuntime) -> Result<(), Fail> {
+    let alloc = rt.alloc();
+    let all = b"chunk_count: 6\ndata_chunk_count: 4\ncoding_chunk_count: 2\n";
+    let rows: [(&[&str], u8, &[u8]); 15] = [
+        (&["test-plugin-exists", "shec"], 0, b"exists\n"),
+        (&["test-plugin-exists", "lrc"], 0, b"exists\n"),
+        (&["test-plugin-exists", "clay"], 1, b"unknown plugin\n"),
+        (&["test-plugin-exists", ""], 1, b"unknown plugin\n"),
+        (&["validate-profile", "k=4,m=2"], 0, all),
+        (&["validate-profile", r#"{"k": 4, "m": 2}"#], 0, all),
+        (
+            &[
+                "validate-profile",
+                "k=4,m=2",
+                "coding_chunk_count",
+                "coding_chunk_count",
+            ],
+            0,
+            b"coding_chunk_count: 2\ncoding_chunk_count: 2\n",
+        ),
+        (&["validate-profile", "k=14,m=3"], 3, b"profile 9 TooMany\n"),
+        (&["calc-chunk-size", "k=4,m=2", "4000"], 0, b"1024\n"),
+        (&["calc-chunk-size", "k=4,m=2", "1"], 0, b"32\n"),
+        (&["calc-chunk-size", "k=4,m=2", "128"], 0, b"32\n"),
+        (&["calc-chunk-size", "k=4,m=2", "129"], 0, b"64\n"),
+        (&["calc-chunk-size", "k=4,m=2", "0"], 0, b"0\n"),
+        (&["calc-chunk-size", "-", "0"], 3, b"profile 18 Setting\n"),
+        (&[], 2, USAGE),
+    ];
+    for (words, status, said) in rows {
+        let mut files = MemFiles::new(alloc)?;
+        let mut rig = MemRig::new(alloc)?;
+        assert_eq!(rt;
+            ended(alloc, words, &mut files, &mut rig)?,
+            status,
+            "at {words:?}"
+        );
+        assert_eq!(rt; rig.said(), said, "at {words:?}");
+    }
+    Ok(())
+}
+
+// By hand: 1 + 2 + 3 + 4 is 4, 1 + 70 * 2 + 143 * 3 + 200 * 4 is 6; the others by the rows of their codes.
+#[test]
+fn example_21_each_position_has_its_file(rt: HostRuntime) -> Result<(), Fail> {
+    let alloc = rt.alloc();
+    let rows: [(&str, &str, &[(&str, u8)]); 4] = [
+        (
+            "k=4,m=2",
+            "0,1,2,3,4,5",
+            &[
+                ("f.0", 1),
+                ("f.1", 2),
+                ("f.2", 3),
+                ("f.3", 4),
+                ("f.4", 4),
+                ("f.5", 6),
+            ],
+        ),
+        ("k=4,m=2", "5,2", &[("f.5", 6), ("f.2", 3)]),
+        (
+            "plugin=shec,technique=single,k=4,m=3,c=2",
+            "4,5,6",
+            &[("f.4", 3), ("f.5", 0xc1), ("f.6", 0x8a)],
+        ),
+        (
+            LAYERED,
+            "0,1,2,3,4,5,6,7",
+            &[
+                ("f.0", 7),
+                ("f.1", 4),
+                ("f.2", 1),
+                ("f.3", 2),
+                ("f.4", 1),
+                ("f.5", 6),
+                ("f.6", 3),
+                ("f.7", 4),
+            ],
+        ),
+    ];
+    for (profile, wanted, chunks) in rows {
+        let mut files = four_units(alloc)?;
+        let mut rig = MemRig::new(alloc)?;
+        let status = ended(
+            alloc,
+            &["encode", profile, "32", wanted, "f"],
+            &mut files,
+            &mut rig,
+        )?;
+        assert_eq!(rt; status, 0, "at {profile}");
+        assert!(rt; rig.said().is_empty(), "at {profile}");
+        for (name, byte) in chunks {
+            assert!(rt;
+                is_filled(alloc, &files, name, *byte, 32)?,
+                "{name} of {profile}"
+            );
+        }
+    }
+    Ok(())
+}
+
+// The files of the chunks of 4 and 2 of four units.
+fn encoded(alloc: Global) -> Result<MemFiles, Fail> {
+    let mut files = four_units(alloc)?;
+    let mut rig = MemRig::new(alloc)?;
+    let words = ["encode", "k=4,m=2", "32", "0,1,2,3,4,5", "f"];
+    ended(alloc, &words, &mut files, &mut rig)?;
+    files.put("f", ec_words::Bytes::new(alloc))?;
+    Ok(files)
+}
+
+// From the rule: any four positions decide the data, in whatever order they are listed.
+#[test]
+fn example_22_the_file_comes_back(rt: HostRuntime) -> Result<(), Fail> {
+    let alloc = rt.alloc();
+    let whole = four_units(alloc)?;
+    for listed in ["2,3,4,5", "5,4,3,2", "0,1,2,3", "1,0,5,4,3", "0,1,2,3,4,5"] {
+        let mut files = encoded(alloc)?;
+        let mut rig = MemRig::new(alloc)?;
+        let status = ended(
+            alloc,
+            &["decode", "k=4,m=2", "32", listed, "f"],
+            &mut files,
+            &mut rig,
+        )?;
+        assert_eq!(rt; status, 0, "at {listed}");
+        assert!(rt; files.bytes("f") == whole.bytes("f"), "at {listed}");
+    }
+    Ok(())
+}
+
+// From the rule: what was written before a failure stays. The read is the first call.
+#[test]
+fn example_23_files_stay_as_they_are_at_a_failure(rt: HostRuntime) -> Result<(), Fail> {
+    let alloc = rt.alloc();
+    let mut files = four_units(alloc)?;
+    let mut rig = MemRig::new(alloc)?;
+    files.fail_at(3);
+    let words = ["encode", "k=4,m=2", "32", "5,2,0", "f"];
+    assert_eq!(rt; ended(alloc, &words, &mut files, &mut rig)?, 5);
+    assert_eq!(rt; rig.said(), b"failed f.2\n".as_slice());
+    assert!(rt; is_filled(alloc, &files, "f.5", 6, 32)?);
+    assert!(rt; files.bytes("f.2").is_none() && files.bytes("f.0").is_none());
+    rig.fail_at(17, 1)?;
+    assert_eq!(rt;
+        ended(alloc, &["test-plugin-exists", "lrc"], &mut files, &mut rig)?,
+        9
+    );
+    Ok(())
+}
