@@ -1,6 +1,6 @@
-//! Examples 20 to 23: the tool over files.
+//! Examples 20 to 24: the tool over files.
 
-use crate::tool_run::{ended, four_units, is_filled};
+use crate::tool_run::{ended, files_of, four_units, is_filled};
 use ec_tool::MemFiles;
 use rig_disk::MemRig;
 use std::alloc::Global;
@@ -145,9 +145,210 @@ fn example_22_the_file_comes_back(rt: HostRuntime) -> Result<(), Fail> {
     Ok(())
 }
 
+// From the order: words, profile, unit, positions, whether they decide, the files in turn, lengths, the decoded length.
+#[test]
+fn example_23_the_first_fault_is_said(rt: HostRuntime) -> Result<(), Fail> {
+    let alloc = rt.alloc();
+    let rows: [(&str, &str, &str, &str, &[(&str, usize)], u64, u8, &[u8]); 18] = [
+        ("encode", "k=14,m=3", "32", "0,0", &[], 0, 2, USAGE),
+        ("encode", "k=14,m=3", "4K", "0", &[], 0, 2, USAGE),
+        (
+            "encode",
+            "k=14,m=3",
+            "33",
+            "0",
+            &[],
+            0,
+            3,
+            b"profile 9 TooMany\n",
+        ),
+        (
+            "encode",
+            "k=4,m=2",
+            "33",
+            "6",
+            &[],
+            0,
+            3,
+            b"profile 14 Unit\n",
+        ),
+        (
+            "encode",
+            "k=4,m=2",
+            "0",
+            "6",
+            &[],
+            0,
+            3,
+            b"profile 14 Unit\n",
+        ),
+        ("encode", "k=4,m=2", "32", "6", &[], 0, 2, USAGE),
+        ("encode", "k=4,m=2", "32", "5,99999", &[], 0, 2, USAGE),
+        ("encode", "k=4,m=2", "32", "0", &[], 0, 4, b"missing f\n"),
+        (
+            "encode",
+            "k=4,m=2",
+            "32",
+            "0",
+            &[("f", 9)],
+            1,
+            5,
+            b"failed f\n",
+        ),
+        ("decode", "k=4,m=2", "32", "6", &[], 0, 2, USAGE),
+        (
+            "decode",
+            "k=4,m=2",
+            "32",
+            "2,3,4",
+            &[],
+            0,
+            6,
+            b"not decided\n",
+        ),
+        (
+            "decode",
+            "k=4,m=2",
+            "32",
+            "2,3,4,5",
+            &[("f.3", 1)],
+            0,
+            4,
+            b"missing f.2\n",
+        ),
+        (
+            "decode",
+            "k=4,m=2",
+            "32",
+            "2,3,4,5",
+            &[("f.2", 32)],
+            2,
+            5,
+            b"failed f.3\n",
+        ),
+        (
+            "decode",
+            "k=4,m=2",
+            "32",
+            "2,3,4,5",
+            &[("f.2", 64), ("f.3", 32), ("f.4", 32)],
+            0,
+            4,
+            b"missing f.5\n",
+        ),
+        (
+            "decode",
+            "k=4,m=2",
+            "32",
+            "2,3,4,5",
+            &[("f.2", 32), ("f.3", 32), ("f.4", 32), ("f.5", 64)],
+            0,
+            7,
+            b"lengths\n",
+        ),
+        (
+            "decode",
+            "k=4,m=2",
+            "32",
+            "2,3,4,5",
+            &[("f.2", 31), ("f.3", 31), ("f.4", 31), ("f.5", 31)],
+            0,
+            7,
+            b"lengths\n",
+        ),
+        (
+            "decode",
+            "k=2,m=2",
+            "32",
+            "2,3",
+            &[("f.2", 32), ("f.3", 32)],
+            3,
+            5,
+            b"failed f\n",
+        ),
+        (
+            "decode",
+            "k=2,m=2",
+            "32",
+            "3,2",
+            &[("f.2", 0), ("f.3", 0)],
+            0,
+            0,
+            b"",
+        ),
+    ];
+    for (command, profile, unit, wanted, lengths, fail, status, said) in rows {
+        let mut files = files_of(alloc, lengths)?;
+        files.fail_at(fail);
+        let mut rig = MemRig::new(alloc)?;
+        let words = [command, profile, unit, wanted, "f"];
+        assert_eq!(rt;
+            ended(alloc, &words, &mut files, &mut rig)?,
+            status,
+            "at {words:?}"
+        );
+        assert_eq!(rt; rig.said(), said, "at {words:?}");
+        if status != 0 {
+            let before = files_of(alloc, lengths)?;
+            assert!(rt; files.bytes("f") == before.bytes("f"), "at {words:?}");
+        }
+    }
+    Ok(())
+}
+
+// From the limit of 2^26 bytes: of a file that is read, and of the one that is decoded. Lengths come before the latter.
+#[test]
+fn example_23_a_file_is_too_long(rt: HostRuntime) -> Result<(), Fail> {
+    let alloc = rt.alloc();
+    let half = (1usize << 25) + 32;
+    let rows: [(&str, &str, &str, &[(&str, usize)], &[u8]); 4] = [
+        (
+            "encode",
+            "k=4,m=2",
+            "0",
+            &[("f", 2 * half)],
+            b"too long f\n",
+        ),
+        (
+            "decode",
+            "k=2,m=2",
+            "2,3",
+            &[("f.2", half), ("f.3", half)],
+            b"too long f\n",
+        ),
+        (
+            "decode",
+            "k=2,m=2",
+            "2,3",
+            &[("f.2", 2 * half)],
+            b"too long f.2\n",
+        ),
+        (
+            "decode",
+            "k=2,m=2",
+            "2,3",
+            &[("f.2", half), ("f.3", 32)],
+            b"lengths\n",
+        ),
+    ];
+    for (command, profile, wanted, lengths, said) in rows {
+        let mut files = files_of(alloc, lengths)?;
+        let mut rig = MemRig::new(alloc)?;
+        let words = [command, profile, "32", wanted, "f"];
+        let status = ended(alloc, &words, &mut files, &mut rig)?;
+        assert!(rt; status == 8 || status == 7, "at {words:?}");
+        assert_eq!(rt; rig.said(), said, "at {words:?}");
+        assert!(rt;
+            command == "encode" || files.bytes("f").is_none(),
+            "at {words:?}"
+        );
+    }
+    Ok(())
+}
+
 // From the rule: what was written before a failure stays. The read is the first call.
 #[test]
-fn example_23_files_stay_as_they_are_at_a_failure(rt: HostRuntime) -> Result<(), Fail> {
+fn example_24_files_stay_as_they_are_at_a_failure(rt: HostRuntime) -> Result<(), Fail> {
     let alloc = rt.alloc();
     let mut files = four_units(alloc)?;
     let mut rig = MemRig::new(alloc)?;
