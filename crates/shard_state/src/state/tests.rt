@@ -143,3 +143,139 @@ fn the_first_bad_place_is_told(rt: HostRuntime) {
         }
     }
 }
+
+// The log is cut to its newest 512 entries.
+#[test]
+fn old_entries_are_trimmed(rt: HostRuntime) -> Result<(), Fail> {
+    let alloc = rt.alloc();
+    let mut state = ShardState::fresh(alloc, Geometry { k: 2, unit: 4 });
+    for i in 0..520u64 {
+        let fresh = if i == 0 { 1 } else { 0 };
+        state.apply(&write(alloc, i, fresh, 0, 1)?)?;
+    }
+    assert_eq!(rt;
+        state.apply(&Step::Trim(version(8))),
+        Err(StepFault::Misfit)
+    );
+    state.apply(&Step::Firm(version(519)))?;
+    state.apply(&Step::Trim(version(8)))?;
+    assert_eq!(rt; state.log_len(), 512);
+    assert_eq!(rt; state.tail(), version(8));
+    assert_eq!(rt; state.firm(), version(519));
+    assert!(rt;
+        state.holds(version(519)) && state.holds(version(520)) && !state.holds(version(518))
+    );
+    match state.logged(0) {
+        Some(what) => assert_eq!(rt; what.version, version(9)),
+        None => assert!(rt; false),
+    }
+    Ok(())
+}
+
+fn entry(alloc: Global, kind: Kind, prior: u64, fresh: u8) -> Result<Step, Fail> {
+    let next = Version {
+        epoch: 1,
+        seq: prior.wrapping_add(1),
+    };
+    let prior = version(prior);
+    let name = Name::read(alloc, b"a")?;
+    let attr = Name::read(alloc, b"t")?;
+    let bytes = bytes_of(alloc, 7)?;
+    Ok(match kind {
+        Kind::Write => Step::Write {
+            version: next,
+            prior,
+            name,
+            fresh,
+            size: 16,
+            at: 4,
+            bytes,
+        },
+        Kind::Replace => Step::Replace {
+            version: next,
+            prior,
+            name,
+            size: 5,
+            bytes,
+        },
+        Kind::Remove => Step::Remove {
+            version: next,
+            prior,
+            name,
+        },
+        Kind::SetAttr => Step::SetAttr {
+            version: next,
+            prior,
+            name,
+            attr,
+            value: bytes,
+        },
+        Kind::RemoveAttr => Step::RemoveAttr {
+            version: next,
+            prior,
+            name,
+            attr,
+        },
+    })
+}
+
+// Each kind of entry on a name that is not there: the first two fit, and leave nothing once they are taken back.
+#[test]
+fn entries_on_a_fresh_name_are_taken_back(rt: HostRuntime) -> Result<(), Fail> {
+    let alloc = rt.alloc();
+    let a = Name::read(alloc, b"a")?;
+    let rows = [
+        (Kind::Write, true),
+        (Kind::Replace, true),
+        (Kind::Remove, false),
+        (Kind::SetAttr, false),
+        (Kind::RemoveAttr, false),
+    ];
+    for (kind, fits) in rows {
+        let mut state = ShardState::fresh(alloc, Geometry { k: 2, unit: 4 });
+        let done = state.apply(&entry(alloc, kind, 0, 1)?);
+        assert_eq!(rt; done.is_ok(), fits, "at {kind:?}");
+        assert_eq!(rt; state.object(&a).is_some(), fits, "at {kind:?}");
+        assert_eq!(rt; go_back(&mut state, version(0)), Ok(()), "at {kind:?}");
+        assert!(rt; state.object(&a).is_none(), "at {kind:?}");
+    }
+    Ok(())
+}
+
+// Each kind of entry on an object of 16 bytes with one attribute: it is as it was once they are taken back.
+#[test]
+fn entries_on_an_object_are_taken_back(rt: HostRuntime) -> Result<(), Fail> {
+    let alloc = rt.alloc();
+    let a = Name::read(alloc, b"a")?;
+    let t = Name::read(alloc, b"t")?;
+    for kind in [
+        Kind::Write,
+        Kind::Replace,
+        Kind::Remove,
+        Kind::SetAttr,
+        Kind::RemoveAttr,
+    ] {
+        let mut state = ShardState::fresh(alloc, Geometry { k: 2, unit: 4 });
+        state.apply(&write(alloc, 0, 1, 4, 1)?)?;
+        state.apply(&entry(alloc, Kind::SetAttr, 1, 0)?)?;
+        state.apply(&entry(alloc, kind, 2, 0)?)?;
+        assert_eq!(rt; state.head(), version(3), "at {kind:?}");
+        assert_eq!(rt; go_back(&mut state, version(2)), Ok(()), "at {kind:?}");
+        match state.object(&a) {
+            Some(held) => {
+                assert_eq!(rt;
+                    held.bytes.as_slice(),
+                    [0, 0, 0, 0, 1, 1, 1, 1].as_slice(),
+                    "at {kind:?}"
+                );
+                assert_eq!(rt; held.size, 16, "at {kind:?}");
+                assert_eq!(rt; held.attrs.len(), 1, "at {kind:?}");
+                assert!(rt; held.attrs.get(&t).is_some(), "at {kind:?}");
+                assert_eq!(rt; held.attrs.name_at(0).is_some(), true, "at {kind:?}");
+                assert!(rt; held.attrs.value_at(1).is_none(), "at {kind:?}");
+            }
+            None => assert!(rt; false, "at {kind:?}"),
+        }
+    }
+    Ok(())
+}
