@@ -7,4 +7,3 @@ pub mod ReedSolVan
 pub mod Rows
 pub mod Shec
 pub mod Stripes
-pub mod Versions

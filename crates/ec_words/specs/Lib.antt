@@ -4,4 +4,3 @@ pub mod Laws
 pub mod Masks
 pub mod Names
 pub mod Numbers
-pub mod Records

@@ -3,7 +3,6 @@ mod DecodingJoinLemmas
 mod DecodingLemmas
 pub mod DecodingMaskLemmas
 mod DecodingSumLemmas
-mod MadeLemmas
 mod EncodingLemmas
 mod SizeLemmas
 mod TouchLemmas

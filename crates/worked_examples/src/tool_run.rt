@@ -42,16 +42,6 @@ fn served(
     Ok(tool(alloc, words, &mut boxes, files, rig))
 }
 
-/// Files of these names and lengths, each of the byte 7 again and again.
-pub fn files_of(alloc: Global, lengths: &[(&str, usize)]) -> Result<MemFiles, Fail> {
-    let mut files = MemFiles::new(alloc)?;
-    for (name, long) in lengths {
-        let bytes = vec![in alloc; 7u8; *long]?;
-        files.put(name, Bytes::of(bytes))?;
-    }
-    Ok(files)
-}
-
 /// A file `f` of 128 bytes: 32 of each of 1, 2, 3 and 4.
 pub fn four_units(alloc: Global) -> Result<MemFiles, Fail> {
     let mut bytes = Vec::new(alloc);

@@ -1,9 +1,0 @@
-pub mod FrontLemmas
-pub mod PastLemmas
-pub mod PutLemmas
-pub mod ReadingLemmas
-pub mod ReplayLemmas
-pub mod StepLemmas
-pub mod StepReadingLemmas
-pub mod UndoLemmas
-pub mod VersionLemmas
