@@ -1,10 +1,12 @@
 -- The chunks of a stripe, one after another.
-use Rattle.std.proofs.Common.{◌≡◌, ℕ, List, ◌+◌, ◌-◌, ◌*◌, ◌<◌, ◌≤◌, ◌++◌, length, slice_index, take, get_or, bit_xor, ap, sym, ◌∙◌, arith, add-one, inl, inr}
+use Rattle.std.proofs.Common.{◌≡◌, ℕ, List, ◌+◌, ◌-◌, ◌*◌, ◌<◌, ◌≤◌, ◌++◌, length, slice_index, take, get_or, bit_xor, ap, sym, ◌∙◌, arith, add-one, inl, inr, refl, zero, suc}
 use borrow.Rule.Slice.PartMut.{put_mid, post_of}
 use Rattle.std.proofs.lemmas.List.{get_or_append_left, get_or-append_right, get_or-take, length-take-le}
 use Rattle.std.proofs.lemmas.Bool.{cases_eq}
 use Rattle.std.proofs.lemmas.Nat.{mul-add-lt}
+use Rattle.std.specs.Int.Bits.{xor_zero_l}
 use Rattle.ec_model.specs.Field.{field_product}
+use Rattle.gf256.proofs.CallerLemmas.{zero-field_product}
 use Rattle.ec_model.specs.Rows.{sum_below, row_at, entry_at}
 use Rattle.ec_code.specs.Encoding.{IsChunk, AreChunks}
 
@@ -41,3 +43,19 @@ next_chunk k unit p rows stripe out chunk room long old new = λ q b lq lb. elim
 
     earlier : (q b : ℕ) → b < unit → q < p → q * unit + b < p * unit
     earlier q b lb lq = omega (arith, mul-add-lt q unit b p lq lb)
+
+-- products with zeros add nothing
+pub zeros_add_nothing : (n : ℕ) (row : List ℕ) (f : ℕ → ℕ) → ((j : ℕ) → j < n → slice_index row j ≡ 0) → sum_below n (λ j. field_product (slice_index row j) (f j)) ≡ 0
+unfolding sum_below
+zeros_add_nothing zero row f zeros = refl
+zeros_add_nothing (suc n) row f zeros =
+    ap (λ t. bit_xor t (field_product (slice_index row n) (f n))) (zeros_add_nothing n row f (λ j lt. zeros j (omega arith)))
+    ∙ ap (λ t. bit_xor 0 (field_product t (f n))) (zeros n (omega arith))
+    ∙ ap (bit_xor 0) (zero-field_product (f n))
+    ∙ xor_zero_l 0
+
+-- the first product that is written, behind those with zeros
+pub first_product : (n : ℕ) (row : List ℕ) (f : ℕ → ℕ) (new : ℕ) → ((j : ℕ) → j < n → slice_index row j ≡ 0)
+    → new ≡ field_product (slice_index row n) (f n) → new ≡ sum_below (n + 1) (λ j. field_product (slice_index row j) (f j))
+first_product n row f new zeros is =
+    next_sum n (λ j. field_product (slice_index row j) (f j)) 0 new (is ∙ sym (xor_zero_l (field_product (slice_index row n) (f n)))) (sym (zeros_add_nothing n row f zeros))

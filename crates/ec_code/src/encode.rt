@@ -23,6 +23,34 @@ fn clear(chunk: &mut [u8])
     }
 }
 
+/// Writes a multiple of the unit of a stripe that begins at `at`. Most rows begin with 1, which is a copy.
+fn put_unit(coefficient: u8, stripe: &[u8], at: usize, chunk: &mut [u8])
+    requires { at + length chunk.old ≤ length stripe.now }
+    ensures { (b : ℕ) → b < length chunk.old → slice_index chunk.new b
+        ≡ field_product coefficient (slice_index stripe.now (at + b)) }
+{
+    if coefficient == 1 {
+        chunk.copy_from_slice(&stripe[at..at + chunk.len()]);
+    } else {
+        clear(chunk);
+        add_unit(coefficient, stripe, at, chunk);
+    }
+}
+
+/// How many of the first `k` entries of a row are 0 before one that is not.
+fn leading_zeros(row: &[u8; 16], k: u8) -> usize
+    requires { k ≤ 16 }
+    ensures most { result ≤ k }
+    ensures zeros { (j : ℕ) → j < result → slice_index row.now j ≡ 0 }
+{
+    for j in 0..k as usize {
+        if row[j] != 0 {
+            return j;
+        }
+    }
+    k as usize
+}
+
 /// The chunk of a stripe of `k` units at one row.
 pub fn encode_chunk(row: &[u8; 16], k: u8, stripe: &[u8], unit: usize, chunk: &mut [u8])
     requires k { k ≤ 16 }
@@ -30,8 +58,13 @@ pub fn encode_chunk(row: &[u8; 16], k: u8, stripe: &[u8], unit: usize, chunk: &m
     requires unit { length chunk.old ≡ unit }
     ensures { IsChunk k row.now stripe.now unit chunk.new }
 {
-    clear(chunk);
-    for j in 0..k as usize {
+    let first = leading_zeros(row, k);
+    if first == k as usize {
+        clear(chunk);
+        return;
+    }
+    put_unit(row[first], stripe, first * unit, chunk);
+    for j in first + 1..k as usize {
         add_unit(row[j], stripe, j * unit, chunk);
     }
 }

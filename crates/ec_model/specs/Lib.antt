@@ -7,3 +7,4 @@ pub mod ReedSolVan
 pub mod Rows
 pub mod Shec
 pub mod Stripes
+pub mod Versions

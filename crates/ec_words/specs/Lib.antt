@@ -4,3 +4,4 @@ pub mod Laws
 pub mod Masks
 pub mod Names
 pub mod Numbers
+pub mod Records

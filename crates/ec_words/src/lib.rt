@@ -16,11 +16,13 @@ mod limits;
 mod mask;
 mod name;
 mod number;
+mod records;
+mod version;
 
 pub use bytes::Bytes;
 pub use fault::{NoMemory, WordFault};
 pub use fields::{field, field_count};
-pub use geometry::Geometry;
+pub use geometry::{Geometry, shard_len};
 pub use hex_text::read_hex;
 pub use laws::{
     fields_are_between_spaces, hex_has_one_reading, hex_is_read_back, hex_text_spells_some_bytes,
@@ -28,3 +30,5 @@ pub use laws::{
 pub use mask::Mask;
 pub use name::Name;
 pub use number::read_u64;
+pub use records::{Cut, put_bytes, put_u32, put_u64, take_bytes, take_u32, take_u64};
+pub use version::Version;

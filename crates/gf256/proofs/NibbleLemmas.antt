@@ -1,14 +1,16 @@
 -- Products by look-ups of the two halves of each byte.
-use Rattle.std.proofs.Common.{◌≡◌, ℕ, ◌+◌, ◌-◌, ◌*◌, ◌/◌, ◌%◌, ◌^◌, ◌<◌, ◌≤◌, List, length, get_or, ap, sym, ◌∙◌, arith, bit_and, bit_xor, lit<}
+use Rattle.std.proofs.Common.{◌≡◌, ℕ, ◌+◌, ◌-◌, ◌*◌, ◌/◌, ◌%◌, ◌^◌, ◌<◌, ◌≤◌, List, length, get_or, ap, sym, ◌∙◌, arith, bit_and, bit_xor, lit<, refl, true, eqb}
 use Rattle.std.specs.Int.{w8}
 use Rattle.std.specs.Prelude.{replicate}
 use Rattle.std.specs.Simd.Lanes.{zip2, chunk, put_chunk}
 use Rattle.std.proofs.Math.Nat.{mod-lt}
 use Rattle.std.proofs.lemmas.Nat.{and_le_r, and_mask, xor_comm, shr_split}
 use Rattle.std.proofs.lemmas.Simd.{SwzOk, swz_l, SwzOk-from_below, get_or-swz_l_below, get_or-zip2, get_or-replicate, Each1-zip2, Each2-splat, Each1-all, length-zip2, length-replicate, length-chunk, get_or-chunk, get_or-put_chunk_at, get_or-put_chunk_below, get_or-put_chunk_above}
-use Rattle.ec_model.specs.Field.{field_product}
+use Rattle.std.proofs.lemmas.Bool.{eqb-true}
+use Rattle.ec_model.specs.Field.{field_product, carry_less_product, remainder}
 use Rattle.gf256.specs.Kernels.{AddsWithin}
-use Rattle.gf256.proofs.FieldLemmas.{field_product-sum}
+use Rattle.gf256.proofs.FieldLemmas.{field_product-sum, field_product_assoc, each_below, each_below_at}
+use Rattle.gf256.proofs.InverseLemmas.{field_product-one}
 use Rattle.gf256.proofs.LinearLemmas.{joined}
 
 pub length-nibbles : (n : ℕ) (f : List ℕ) → length f ≡ n → length (zip2 bit_and f (replicate n 15)) ≡ n
@@ -85,3 +87,26 @@ block_sums f at to from products room long products_of =
       below = λ k under. get_or-put_chunk_below at to sums k 0 under;
       above = λ k over. get_or-put_chunk_above at to sums k 0 (omega (arith, length-sum_block at to products room long));
     }
+
+twice_test : each_below 8 (λ h. eqb (field_product h 2) (h * 2)) ≡ true
+unfolding field_product carry_less_product remainder
+twice_test = refl
+
+-- an even entry is the double of that of its half
+pub even_product : (factor h : ℕ) → h < 8 → field_product (field_product factor h) 2 ≡ field_product factor (h * 2)
+even_product factor h lt = field_product_assoc factor h 2 ∙ ap (λ t. field_product factor t) (eqb-true _ _ (each_below_at 8 (λ h. eqb (field_product h 2) (h * 2)) twice_test h lt))
+
+-- an odd entry is one factor more than the even one before it
+pub odd_product : (factor h : ℕ) → factor < 2 ^ 8 → bit_xor (field_product factor (h * 2)) factor ≡ field_product factor (h * 2 + 1)
+odd_product factor h byte =
+    ap (λ t. bit_xor (field_product factor (h * 2)) t) (sym (field_product-one factor byte))
+    ∙ sym (field_product-sum factor (h * 2) 1)
+    ∙ ap (λ t. field_product factor t) (joined 1 h 1 (lit< tt))
+
+sixteen_test : each_below 16 (λ x. eqb (field_product 16 x) (x * 16)) ≡ true
+unfolding field_product carry_less_product remainder
+sixteen_test = refl
+
+-- the products with the multiples of 16
+pub high_product : (coef x : ℕ) → x < 16 → field_product (field_product coef 16) x ≡ field_product coef (x * 16)
+high_product coef x lt = field_product_assoc coef 16 x ∙ ap (λ t. field_product coef t) (eqb-true _ _ (each_below_at 16 (λ x. eqb (field_product 16 x) (x * 16)) sixteen_test x lt))

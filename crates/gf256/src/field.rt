@@ -5,7 +5,7 @@ ghost use Rattle.ec_model.specs.Field.{field_product, IsInverse};
 use crate::inverses::INVERSES;
 
 /// The product by the polynomial x.
-fn doubled(a: u8) -> u8
+pub fn doubled(a: u8) -> u8
     ensures { result ≡ field_product a 2 }
 {
     if a < 0x80 { a << 1 } else { (a << 1) ^ 0x1d }

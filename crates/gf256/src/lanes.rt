@@ -5,7 +5,7 @@ ghost use Rattle.std.specs.Prelude.{◌≡◌, ◌<◌, ◌≤◌, ◌+◌, ◌*
 ghost use Rattle.ec_model.specs.Field.{field_product};
 ghost use Rattle.gf256.specs.Kernels.{AddsWithin};
 
-use crate::mul;
+use crate::field::{doubled, mul};
 use std::simd::prelude::*;
 
 /// The bytes of a block.
@@ -26,8 +26,8 @@ impl Multiples {
     pub fn new(coef: u8) -> Self
         ensures { result.coef ≡ coef }
     {
-        let low = table_of(coef, 1);
-        let high = table_of(coef, 16);
+        let low = table_of(coef);
+        let high = table_of(mul(coef, 16));
         Multiples {
             coef,
             low: u8x32::from_array(low),
@@ -54,16 +54,31 @@ fn looked_up(table: u8x32, bytes: u8x32) -> u8x32
     table.swizzle_dyn_within::<16>(bytes & u8x32::splat(15))
 }
 
-// The products of 0, `step`, .., 15 * `step`, twice.
-fn table_of(coef: u8, step: u8) -> [u8; 32]
-    requires { step ≤ 16 }
-    ensures { (i : ℕ) → i < 32 → slice_index result i ≡ field_product coef (i % 16 * step) }
+// The products of a factor with 0 to 15, twice.
+fn table_of(factor: u8) -> [u8; 32]
+    ensures { (i : ℕ) → i < 32 → slice_index result i ≡ field_product factor (i % 16) }
 {
     let mut all = [0u8; 32];
-    for i in 0..32u8 {
-        all[i as usize] = mul(coef, i % 16 * step);
+    for i in 1..32usize {
+        all[i] = next_product(factor, i, &all);
     }
     all
+}
+
+// The next entry, from those before it: by eight doublings each the tables would cost as much as 4 KiB of products.
+fn next_product(factor: u8, i: usize, all: &[u8; 32]) -> u8
+    requires from { 1 ≤ i }
+    requires inside { i < 32 }
+    requires before { (k : ℕ) → k < i → slice_index all.now k ≡ field_product factor (k % 16) }
+    ensures { result ≡ field_product factor (i % 16) }
+{
+    if i >= 16 {
+        all[i - 16]
+    } else if i % 2 == 0 {
+        doubled(all[i / 2])
+    } else {
+        all[i - 1] ^ factor
+    }
 }
 
 /// Adds the 32 bytes of `from` from `at` on to those of `to`.

@@ -1,2 +1,11 @@
+mod AgreeLemmas
+pub mod Areas
 pub mod CallerLemmas
+pub mod FrameLemmas
+mod LogLemmas
+pub mod Moments
+mod PickLemmas
+mod ReplayLemmas
+mod RigLemmas
+mod SpoilLemmas
 mod TakeLemmas

@@ -1,4 +1,14 @@
+pub mod SlotAreas
+pub mod CallLaws
+pub mod CallLog
+pub mod Crash
+pub mod Disk
+pub mod During
+pub mod FaultPlan
 pub mod Faults
+pub mod Frame
 pub mod MemRig
 pub mod MemSource
 pub mod Said
+pub mod Spoil
+pub mod Untold

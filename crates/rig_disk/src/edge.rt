@@ -1,24 +1,22 @@
 //! The real outside: folders and standard output ([`FileRig`]), and standard input ([`StdSource`]). Both tell no
 //! contents, so what they do to files and streams is tested and trusted, and their counts of faults are proved.
-ghost use Rattle.std.specs.Prelude.{◌≡◌, ◌<◌, ◌≤◌, ◌==◌, ℕ, List, Option, None, IfOk, if◌then◌else◌};
-ghost use Rattle.rig_disk.specs.declared.limits.TheConstants.{VOICE};
+ghost use Rattle.std.specs.Prelude.{◌≡◌, ◌≢◌, ◌<◌, ◌≤◌, ℕ, List, Option, None, IfOk, true, false, slice_index_or};
+ghost use Rattle.rig_disk.specs.Faults.{Rose, count_limit};
 
-use crate::{Failed, MAX_SLOT, Rig, Source, VOICE};
+use crate::limits::{COUNTED, SLOTS};
+use crate::slot_files::SlotFiles;
+use crate::{Failed, Rig, Source, VOICE};
 use ec_words::NoMemory;
 use std::alloc::Global;
-use std::fs;
 use std::io::Read;
 use std::rt::Runtime;
-
-/// The slots of a rig: one more than the number of the last.
-const SLOTS: usize = 17;
 
 /// A rig over the folders `slot.00` to `slot.16` of a folder. It speaks to standard output.
 #[derive(Drop)]
 pub struct FileRig<T: Runtime> {
-    rt: T,
+    files: SlotFiles<T>,
     here: [bool; SLOTS],
-    voice_faults: u64,
+    faults: [u64; COUNTED],
 }
 
 impl<T: Runtime> FileRig<T> {
@@ -26,43 +24,130 @@ impl<T: Runtime> FileRig<T> {
     pub fn open(rt: T, alloc: Global, dir: &str) -> Result<FileRig<T>, NoMemory>
         ensures { IfOk result (λ rig. (slot : ℕ) → ⟦<FileRig<T> as Rig>⟧.faults rig slot ≡ 0) }
     {
+        let files = SlotFiles::new(rt, alloc, dir)?;
         let mut here = [false; SLOTS];
         for slot in 0..SLOTS {
-            here[slot] = is_folder(&rt, alloc, dir, slot)?;
+            here[slot] = files.has_slot(slot as u8)?;
         }
         Ok(FileRig {
-            rt,
+            files,
             here,
-            voice_faults: 0,
+            faults: [0; COUNTED],
         })
-    }
-
-    /// Whether the slot had a folder when the rig was opened.
-    pub fn here(&self, slot: u8) -> bool
-        requires { slot ≤ MAX_SLOT }
-    {
-        self.here[usize::from(slot)]
     }
 }
 
-fn is_folder<T: Runtime>(rt: &T, alloc: Global, dir: &str, slot: usize) -> Result<bool, NoMemory> {
-    let path = format!(in alloc; "{dir}/slot.{slot:02}")?;
-    match fs::metadata(rt, path.as_str()) {
-        Ok(found) => Ok(found.is_dir()),
-        Err(_) => Ok(false),
-    }
+// Counts a fault.
+fn count_fault(faults: &mut [u64; COUNTED], slot: u8)
+    requires { slot ≤ 17 }
+    ensures rose { Rose (slice_index_or faults.old slot 0) (slice_index_or faults.new slot 0) }
+    ensures later { slice_index_or faults.old slot 0 ≤ slice_index_or faults.new slot 0 }
+    ensures at_limit { slice_index_or faults.old slot 0 ≡ count_limit
+        → slice_index_or faults.new slot 0 ≡ slice_index_or faults.old slot 0 }
+    ensures others { (s : ℕ) → s ≢ slot
+        → slice_index_or faults.new s 0 ≡ slice_index_or faults.old s 0 }
+{
+    let at = usize::from(slot);
+    faults[at] = faults[at].saturating_add(1);
 }
 
 impl<T: Runtime> Rig for FileRig<T> {
-    ghost said = { λ _. None };
+    ghost use Rattle.rig_disk.specs.Untold.{none_told};
 
-    ghost faults = { λ rig slot. if slot == VOICE then rig.voice_faults else 0 };
+    ghost is_here = { λ rig slot. slice_index_or rig.here slot false ≡ true };
 
-    fn say(&mut self, bytes: &[u8]) -> Result<(), Failed> {
-        match self.rt.write_all(bytes) {
+    ghost reads = { λ rig slot area. None };
+
+    ghost said = { λ rig. None };
+
+    ghost clock = { λ rig. 0 };
+
+    ghost images = { λ rig t image text. ⊥ };
+
+    ghost faults = { λ rig slot. slice_index_or rig.faults slot 0 };
+
+    ghost syncs = { λ rig slot. None };
+
+    ghost bytes_written = { λ rig slot. None };
+
+    ghost bytes_read = { λ rig slot. None };
+
+    ghost as_read = { λ rig s a there told. absurd (none_told told) };
+
+    ghost said_now = { λ rig image text now. absurd now };
+
+    fn here(&self, slot: u8) -> bool {
+        self.here[usize::from(slot)]
+    }
+
+    fn place(&mut self, slot: u8) -> Result<(), Failed> {
+        match self.files.make_slot(slot) {
+            Ok(()) => {
+                self.here[usize::from(slot)] = true;
+                Ok(())
+            }
+            Err(_) => {
+                count_fault(&mut self.faults, slot);
+                Err(Failed)
+            }
+        }
+    }
+
+    fn length(&mut self, slot: u8, area: u8) -> Result<u64, Failed> {
+        match self.files.length(slot, area) {
+            Ok(len) => Ok(len),
+            Err(_) => {
+                count_fault(&mut self.faults, slot);
+                Err(Failed)
+            }
+        }
+    }
+
+    fn read_at(&mut self, slot: u8, area: u8, at: u64, into: &mut [u8]) -> Result<usize, Failed> {
+        match self.files.read(slot, area, at, into) {
+            Ok(count) => Ok(count),
+            Err(_) => {
+                count_fault(&mut self.faults, slot);
+                Err(Failed)
+            }
+        }
+    }
+
+    fn write_at(&mut self, slot: u8, area: u8, at: u64, bytes: &[u8]) -> Result<(), Failed> {
+        match self.files.write(slot, area, at, bytes) {
             Ok(()) => Ok(()),
             Err(_) => {
-                self.voice_faults = self.voice_faults.saturating_add(1);
+                count_fault(&mut self.faults, slot);
+                Err(Failed)
+            }
+        }
+    }
+
+    fn cut(&mut self, slot: u8, area: u8, len: u64) -> Result<(), Failed> {
+        match self.files.cut(slot, area, len) {
+            Ok(()) => Ok(()),
+            Err(_) => {
+                count_fault(&mut self.faults, slot);
+                Err(Failed)
+            }
+        }
+    }
+
+    fn sync(&mut self, slot: u8, area: u8) -> Result<(), Failed> {
+        match self.files.sync(slot, area) {
+            Ok(()) => Ok(()),
+            Err(_) => {
+                count_fault(&mut self.faults, slot);
+                Err(Failed)
+            }
+        }
+    }
+
+    fn say(&mut self, bytes: &[u8]) -> Result<(), Failed> {
+        match self.files.say(bytes) {
+            Ok(()) => Ok(()),
+            Err(_) => {
+                count_fault(&mut self.faults, VOICE);
                 Err(Failed)
             }
         }
@@ -102,33 +187,4 @@ impl<T: Runtime> Source for StdSource<T> {
 }
 
 #[cfg(test)]
-mod tests {
-    use super::*;
-    use std::test::Fail;
-
-    #[test]
-    fn a_rig_speaks_to_standard_output(rt: HostRuntime) -> Result<(), Fail> {
-        let mut rig = FileRig::open(rt, rt.alloc(), ".")?;
-        assert_eq!(rt; rig.say(b"said\n"), Ok(()));
-        Ok(())
-    }
-
-    #[test]
-    fn a_folder_of_its_own_makes_a_slot_here(rt: HostRuntime) -> Result<(), Fail> {
-        fs::create_dir_all(&rt, "edge_test/slot.03")?;
-        let rig = FileRig::open(rt, rt.alloc(), "edge_test")?;
-        for slot in 0..=MAX_SLOT {
-            assert_eq!(rt; rig.here(slot), slot == 3, "at {slot}");
-        }
-        fs::remove_dir_all(&rt, "edge_test")?;
-        Ok(())
-    }
-
-    // The tests of this crate run with an input that is at its end.
-    #[test]
-    fn a_source_reads_standard_input(rt: HostRuntime) {
-        let mut source = StdSource::new(rt);
-        let mut piece = [0u8; 16];
-        assert_eq!(rt; source.take(&mut piece), Ok(0));
-    }
-}
+mod tests;

@@ -1,8 +1,7 @@
 -- Stripes that are joined one after another.
-use Rattle.std.proofs.Common.{◌≡◌, ℕ, zero, suc, ◌+◌, ◌*◌, ◌<◌, ◌≤◌, List, [], ◌++◌, length, map, take, drop, get_or, sym, ap, ◌∙◌, append_assoc, arith, zero-mul, length-append, length-take, length-drop}
+use Rattle.std.proofs.Common.{◌≡◌, ℕ, zero, suc, ◌+◌, ◌*◌, ◌<◌, ◌≤◌, List, ◌++◌, length, take, drop, sym, ap, ◌∙◌, append_assoc, arith, zero-mul, length-append, length-take, length-drop}
 use Rattle.std.specs.List.{flat_map, range_with_len}
 use Rattle.std.proofs.lemmas.Grind.{div_ceil_times}
-use Rattle.std.proofs.lemmas.List.{get_or-map}
 use Rattle.std.proofs.lemmas.Nat.{mul-le}
 use Rattle.std.proofs.Math.Nat.{suc-mul}
 use Rattle.ec_model.specs.Stripes.{chunk_at, stripe_count, shard_len}
@@ -19,11 +18,6 @@ pieces_more f first old new piece j so_far more is =
     ∙ (λ i. so_far i ++ (is ∙ ap f at) i)
     ∙ append_assoc first (flat_map f (range_with_len 0 j)) (f (0 + j))
     ∙ ap (λ l. first ++ l) (sym (flat_map-range_more f 0 j))
-
--- a list, as it is read
-pub list_read : {X : Type 0} (items : X → List ℕ) (lists : List X) (j : ℕ) (x : X) (list : List ℕ) → list ≡ items x → x ≡ get_or lists j x
-    → j < length lists → list ≡ list_at (map items lists) j
-list_read {X} items lists j x list shown is lt = shown ∙ sym (get_or-map items lists j x [] lt ∙ sym (ap items is))
 
 -- a stripe's chunk lies inside each list
 pub chunk_inside : (k unit size t j : ℕ) (lists : List (List ℕ)) → HaveLength k (shard_len k unit size) lists → t < stripe_count k unit size → j < k

@@ -59,10 +59,10 @@ sum_is_position_list code unit bytes from p c lists list few makes each long sum
 }
 
 -- a byte of a chunk in a list of chunks
-chunk_byte : (unit : ℕ) (list : List ℕ) (index b : ℕ) → b < unit → slice_index (chunk_at unit list index) b ≡ slice_index list (index * unit + b)
+pub chunk_byte : (unit : ℕ) (list : List ℕ) (index b : ℕ) → b < unit → slice_index (chunk_at unit list index) b ≡ slice_index list (index * unit + b)
 chunk_byte unit list index b lt = get_or-take unit (drop (index * unit) list) b 0 lt ∙ get_or-drop (index * unit) list b 0
 
-chunk_long : (unit : ℕ) (list : List ℕ) (index count : ℕ) → length list ≡ count * unit → index < count → length (chunk_at unit list index) ≡ unit
+pub chunk_long : (unit : ℕ) (list : List ℕ) (index count : ℕ) → length list ≡ count * unit → index < count → length (chunk_at unit list index) ≡ unit
 chunk_long unit list index count long lt =
     let room : (index + 1) * unit ≤ count * unit = mul-le (index + 1) unit count unit (omega arith) (omega arith) in
     let next : (index + 1) * unit ≡ index * unit + unit = times_next index unit in

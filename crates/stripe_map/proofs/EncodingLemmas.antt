@@ -1,10 +1,9 @@
 -- The list of a position, written stripe after stripe, with the last stripe padded.
-use Rattle.std.proofs.Common.{◌≡◌, ℕ, List, ◌+◌, ◌-◌, ◌*◌, ◌/◌, ◌<◌, ◌≤◌, ◌++◌, length, slice_index, take, drop, replicate, get_or, ap, sym, subst, ◌∙◌, arith, inl, inr, length-append, length-drop}
-use borrow.Rule.Slice.PartMut.{put_mid, post_of}
+use Rattle.std.proofs.Common.{◌≡◌, ℕ, List, ◌+◌, ◌-◌, ◌*◌, ◌/◌, ◌<◌, ◌≤◌, ◌++◌, length, slice_index, take, drop, replicate, ap, sym, subst, ◌∙◌, arith, inl, inr, length-append, length-drop}
 use Rattle.std.specs.Int.{div_ceil}
 use Rattle.std.proofs.lemmas.Bool.{cases_eq}
-use Rattle.std.proofs.lemmas.List.{get_or_append_left, get_or-append_right, get_or-take, get_or-drop, length-take-le, length-replicate, drop-append-le, take_all}
-use Rattle.std.proofs.lemmas.Nat.{mul-add-lt, mul-le}
+use Rattle.std.proofs.lemmas.List.{get_or_append_left, get_or-append_right, get_or-take, get_or-drop, length-replicate, drop-append-le, take_all}
+use Rattle.std.proofs.lemmas.Nat.{mul-add-lt}
 use Rattle.std.proofs.Math.Nat.{div-mul-le_self, lt-div-mul-add}
 use Rattle.ec_model.specs.Field.{field_product}
 use Rattle.ec_model.specs.Rows.{sum_below, entry_at}
@@ -52,17 +51,6 @@ padded_rest_is k unit bytes t some inside past =
 
 -- ---- one stripe after another
 
-inside : (a k : ℕ) (xs ys : List ℕ) (b : ℕ) → a ≤ length xs → b < length ys → get_or (put_mid a k xs ys) (a + b) 0 ≡ get_or ys b 0
-inside a k xs ys b room lt =
-    let e : a + b - a ≡ b = omega arith in
-    get_or-append_right (take a xs) (ys ++ post_of a k xs) a (a + b) 0 (length-take-le a xs room) (omega arith)
-    ∙ ap (λ t. get_or (ys ++ post_of a k xs) t 0) e
-    ∙ get_or_append_left ys (post_of a k xs) 0 b lt
-
-before : (a k : ℕ) (xs ys : List ℕ) (i : ℕ) → a ≤ length xs → i < a → get_or (put_mid a k xs ys) i 0 ≡ get_or xs i 0
-before a k xs ys i room lt =
-    get_or_append_left (take a xs) (ys ++ post_of a k xs) 0 i (omega (arith, length-take-le a xs room)) ∙ get_or-take a xs i 0 lt
-
 -- a byte of stripe t, as a byte of the whole
 stripe_byte : (k unit : ℕ) (whole : List ℕ) (t j b : ℕ) → j < k → b < unit
     → slice_index (chunk_at (k * unit) whole t) (j * unit + b) ≡ slice_index whole ((t * k + j) * unit + b)
@@ -71,19 +59,23 @@ stripe_byte k unit whole t j b inside lt =
     let place : t * (k * unit) + (j * unit + b) ≡ (t * k + j) * unit + b = grind arith in
     get_or-take (k * unit) (drop (t * (k * unit)) whole) (j * unit + b) 0 below ∙ get_or-drop (t * (k * unit)) whole (j * unit + b) 0 ∙ ap (slice_index whole) place
 
-pub next_stripe : (k unit : ℕ) (row bytes stripe out chunk : List ℕ) (t : ℕ) → t * unit ≤ length out → length chunk ≡ unit
+-- the chunk of one stripe more stands behind those of the stripes before it
+pub next_stripe : (k unit : ℕ) (row bytes stripe out chunk : List ℕ) (t : ℕ) → length out ≡ t * unit → length chunk ≡ unit
     → stripe ≡ chunk_at (k * unit) (padded k unit bytes) t → IsChunk k row stripe unit chunk → HasStripes k unit row bytes t out
-    → HasStripes k unit row bytes (t + 1) (put_mid (t * unit) (t * unit + unit - t * unit) out chunk)
-next_stripe k unit row bytes stripe out chunk t room long is new so_far = λ s b ls lb. elim (cases_eq s t) [
+    → HasStripes k unit row bytes (t + 1) (out ++ chunk)
+next_stripe k unit row bytes stripe out chunk t behind long is new so_far = λ s b ls lb. elim (cases_eq s t) [
   | inl e ↦
-      ap (λ n. slice_index (put_mid (t * unit) (t * unit + unit - t * unit) out chunk) (n * unit + b)) e
-      ∙ inside (t * unit) (t * unit + unit - t * unit) out chunk b room (omega arith) ∙ new b lb
+      let place : t * unit + b - t * unit ≡ b = omega arith in
+      ap (λ n. slice_index (out ++ chunk) (n * unit + b)) e
+      ∙ get_or-append_right out chunk (t * unit) (t * unit + b) 0 behind (omega arith)
+      ∙ ap (slice_index chunk) place ∙ new b lb
       ∙ sum_below-same k (λ j. field_product (slice_index row j) (slice_index stripe (j * unit + b)))
       (λ j. field_product (slice_index row j) (slice_index (padded k unit bytes) ((t * k + j) * unit + b)))
       (λ j lj. ap (field_product (slice_index row j)) (ap (λ l. slice_index l (j * unit + b)) is ∙ stripe_byte k unit (padded k unit bytes) t j b lj lb))
       ∙ ap (λ n. sum_below k (λ j. field_product (slice_index row j) (slice_index (padded k unit bytes) ((n * k + j) * unit + b)))) (sym e)
   | inr ne ↦
-      before (t * unit) (t * unit + unit - t * unit) out chunk (s * unit + b) room (earlier s b lb (below s ls ne)) ∙ so_far s b (below s ls ne) lb
+      let before : s * unit + b < length out = omega (arith, earlier s b lb (below s ls ne), behind) in
+      get_or_append_left out chunk 0 (s * unit + b) before ∙ so_far s b (below s ls ne) lb
 ]
   where
     below : (s : ℕ) → s < t + 1 → (s ≡ t → ⊥) → s < t
@@ -91,10 +83,6 @@ next_stripe k unit row bytes stripe out chunk t room long is new so_far = λ s b
 
     earlier : (s b : ℕ) → b < unit → s < t → s * unit + b < t * unit
     earlier s b lb ls = omega (arith, mul-add-lt s unit b t ls lb)
-
--- a stripe's chunk lies in the list
-pub chunk_inside : (count unit t size : ℕ) → size ≡ count * unit → t < count → t * unit + unit ≤ size
-chunk_inside count unit t size is lt = omega (arith, times_next t unit, mul-le (t + 1) unit count unit (omega arith) (omega arith))
 
 -- all stripes are there
 pub position_list : (code : CodeRows) (k unit : ℕ) (row bytes : List ℕ) (p : ℕ) (list : List ℕ) → k ≡ code.k

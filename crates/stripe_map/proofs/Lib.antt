@@ -3,6 +3,7 @@ mod DecodingJoinLemmas
 mod DecodingLemmas
 pub mod DecodingMaskLemmas
 mod DecodingSumLemmas
+mod MadeLemmas
 mod EncodingLemmas
 mod SizeLemmas
 mod TouchLemmas

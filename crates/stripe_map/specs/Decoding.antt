@@ -1,8 +1,10 @@
 -- An object from chunks of some positions. Source: this project.
 -- `unit` is the bytes of a chunk in one stripe; a list of a position has its chunk of each stripe, one after another.
-use Rattle.std.specs.Prelude.{◌≡◌, ◌↔◌, ◌<◌, ◌^◌, ℕ, List, [], Option, Some, None, IsSome, ⊤, length, slice_index, slice_index_or}
+use Rattle.std.specs.Prelude.{◌≡◌, ◌↔◌, ◌<◌, ◌^◌, ℕ, List, [], Option, Some, None, IsSome, ⊤, length, map, slice_index, slice_index_or}
 use Rattle.std.specs.List.{All, flat_map, range_with_len}
 use Rattle.ec_model.specs.Codes.{CodeRows, HasPosition, LiesBelow, DecidesOne, IsPositionList}
+use Rattle.ec_model.specs.Field.{field_product}
+use Rattle.ec_model.specs.Rows.{sum_below, row_at}
 use Rattle.ec_model.specs.Stripes.{chunk_at}
 use Rattle.stripe_map.specs.Chunks.{chunk_of_position}
 
@@ -49,6 +51,18 @@ pub record AreOfObject (code : CodeRows) (unit : ℕ) (chunks : List (Option (Li
 abbrev pub bytes_of : Option (List ℕ) → List ℕ
 bytes_of (Some bytes) = bytes
 bytes_of None = []
+
+-- byte i of the sum of the first n positions' chunks, each times its entry of a row
+abbrev pub made_byte : ℕ → List ℕ → List (Option (List ℕ)) → ℕ → ℕ
+made_byte n row chunks i = sum_below n (λ q. field_product (slice_index row q) (slice_index (bytes_of (chunk_of_position chunks q)) i))
+
+-- the first `long` bytes of that sum
+abbrev pub made_list : ℕ → List ℕ → List (Option (List ℕ)) → ℕ → List ℕ
+made_list n row chunks long = map (made_byte n row chunks) (range_with_len 0 long)
+
+-- such a list by each of k rows
+abbrev pub made_lists : ℕ → ℕ → List (List ℕ) → List (Option (List ℕ)) → ℕ → List (List ℕ)
+made_lists k n rows chunks long = map (λ j. made_list n (row_at rows j) chunks long) (range_with_len 0 k)
 
 -- a list of several, and no bytes past them
 abbrev pub list_at : List (List ℕ) → ℕ → List ℕ

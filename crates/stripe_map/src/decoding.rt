@@ -7,7 +7,7 @@ ghost use Rattle.stripe_map.specs.declared.limits.TheConstants.{MAX_OBJECT};
 ghost use Rattle.stripe_map.specs.declared.decoding.DecodeFault.TheVariants.{NotDecided, Lengths, NoMemory as OutOfMemory};
 
 use crate::Chunks;
-use crate::combining::data_lists;
+use crate::combining::data_rows;
 use crate::joining::joined;
 use ec_code::{Code, combine};
 use ec_words::{Bytes, Geometry, Mask, NoMemory};
@@ -64,8 +64,8 @@ pub fn decode_object(
     if !chunks.have_length(long) {
         return Err(DecodeFault::Lengths);
     }
-    let lists = data_lists(alloc, code, chunks, from, long)?;
-    let whole = joined(alloc, &lists, g.unit as usize, size as usize)?;
+    let rows = data_rows(code, from);
+    let whole = joined(alloc, &rows, g, code.shape().n, chunks, size as usize)?;
     Ok(Bytes::of(whole))
 }
 

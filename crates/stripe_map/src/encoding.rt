@@ -26,12 +26,9 @@ pub fn encode_object(
     requires p { p < (meaning code.now).n }
     ensures { IfOk result (IsPositionList (meaning code.now) g.unit bytes.now p) }
 {
-    let unit = g.unit as usize;
-    let width = g.k as usize * unit;
     let row = row_of(code, p);
-    let last = padded_rest(alloc, bytes, width)?;
-    let mut list = vec![in alloc; 0u8; bytes.len().div_ceil(width) * unit]?;
-    encode_stripes(&row, g, bytes, &last, &mut list);
+    let last = padded_rest(alloc, bytes, g.k as usize * g.unit as usize)?;
+    let list = encode_stripes(alloc, &row, g, bytes, &last)?;
     Ok(Bytes::of(list))
 }
 
@@ -77,23 +74,31 @@ fn stripe_of<'a>(g: Geometry, bytes: &'a [u8], last: &'a [u8], stripe: usize) ->
     }
 }
 
-/// Writes the chunks by a row, stripe after stripe.
-fn encode_stripes(row: &[u8; 16], g: Geometry, bytes: &[u8], last: &[u8], list: &mut [u8])
+/// The chunks by a row, stripe after stripe. Each is made in the cache and then appended, so that the list goes through memory once.
+fn encode_stripes(
+    alloc: Global,
+    row: &[u8; 16],
+    g: Geometry,
+    bytes: &[u8],
+    last: &[u8],
+) -> Result<Vec<u8>, NoMemory>
     requires k { g.k ≤ 16 }
     requires within_limit { length bytes.now ≤ MAX_OBJECT }
     requires last { last.now ≡ last_stripe (g.k * g.unit) bytes.now }
-    requires long { length list.old ≡ shard_len g.k g.unit (length bytes.now) }
-    ensures long { length list.new ≡ length list.old }
-    ensures value { HasStripes g.k g.unit row.now bytes.now
-        (stripe_count g.k g.unit (length bytes.now)) list.new }
+    ensures long { IfOk result (λ list. length list.items ≡ shard_len g.k g.unit (length bytes.now)) }
+    ensures value { IfOk result (λ list. HasStripes g.k g.unit row.now bytes.now
+        (stripe_count g.k g.unit (length bytes.now)) list.items) }
 {
     let unit = g.unit as usize;
-    let width = g.k as usize * unit;
-    for stripe in 0..bytes.len().div_ceil(width) {
-        let at = stripe * unit;
+    let count = bytes.len().div_ceil(g.k as usize * unit);
+    let mut chunk = vec![in alloc; 0u8; unit]?;
+    let mut list = Vec::with_capacity(alloc, count * unit)?;
+    for stripe in 0..count {
         let stripe = stripe_of(g, bytes, last, stripe);
-        encode_chunk(row, g.k, stripe, unit, &mut list[at..at + unit]);
+        encode_chunk(row, g.k, stripe, unit, &mut chunk);
+        list.extend_from_slice(&chunk)?;
     }
+    Ok(list)
 }
 
 #[cfg(test)]

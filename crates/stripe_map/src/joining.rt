@@ -1,61 +1,68 @@
-//! The object that the lists of its data positions give.
-ghost use Rattle.std.specs.Prelude.{◌≡◌, ◌<◌, ◌≤◌, ◌+◌, ◌*◌, ℕ, ◌++◌, length, map, take, IfOk, OnOk};
-ghost use Rattle.ec_model.specs.Stripes.{stripe_count, shard_len, chunk_at};
-ghost use Rattle.stripe_map.specs.Decoding.{HaveLength, list_at, stripe_of, stripes_of};
+//! The object that the chunks of some positions make.
+ghost use Rattle.std.specs.Prelude.{◌≡◌, ◌<◌, ◌≤◌, ◌+◌, ◌*◌, ℕ, ◌++◌, length, take, IfOk, OnOk};
+ghost use Rattle.ec_model.specs.Stripes.{stripe_count, shard_len};
+ghost use Rattle.stripe_map.specs.Decoding.{AllHaveLength, made_lists, stripe_of, stripes_of};
+ghost use Rattle.stripe_map.specs.declared.limits.TheConstants.{MAX_OBJECT};
 
-use ec_words::NoMemory;
+use crate::Chunks;
+use crate::combining::make_piece;
+use ec_words::{Geometry, NoMemory};
 use std::alloc::Global;
 
-/// The object of `size` bytes of which these are the lists of the data positions: stripe by stripe, without the padding.
+/// The object of `size` bytes whose data positions the chunks of the first `n` positions make by these rows: stripe by stripe,
+/// without the padding. Each piece is made in the cache and then appended, so that no list is held beside the chunks.
 pub fn joined(
     alloc: Global,
-    lists: &[Vec<u8>],
-    unit: usize,
+    rows: &[[u8; 16]; 16],
+    g: Geometry,
+    n: u8,
+    chunks: &Chunks,
     size: usize,
 ) -> Result<Vec<u8>, NoMemory>
-    requires some_lists { 1 ≤ length lists.now }
-    requires few { length lists.now ≤ 16 }
-    requires some { 1 ≤ unit }
-    requires short { unit ≤ 65536 }
-    requires long { HaveLength (length lists.now) (shard_len (length lists.now) unit size)
-        (map (λ list. list.items) lists.now) }
-    ensures value { IfOk result (λ whole. whole.items
-        ≡ take size (stripes_of (length lists.now) unit (map (λ list. list.items) lists.now)
-        (stripe_count (length lists.now) unit size))) }
+    requires k { g.k ≤ 16 }
+    requires n { n ≤ 16 }
+    requires within_limit { size ≤ MAX_OBJECT }
+    requires lengths { AllHaveLength chunks.now (shard_len g.k g.unit size) }
+    ensures value { IfOk result (λ whole. whole.items ≡ take size (stripes_of g.k g.unit
+        (made_lists g.k n rows.now chunks.now (shard_len g.k g.unit size)) (stripe_count g.k g.unit size))) }
     ensures long { IfOk result (λ whole. length whole.items ≡ size) }
 {
-    let mut whole = Vec::new(alloc);
-    for stripe in 0..size.div_ceil(lists.len() * unit) {
-        join_stripe(lists, unit, stripe, &mut whole)?;
+    let unit = g.unit as usize;
+    let count = size.div_ceil(g.k as usize * unit);
+    let mut piece = vec![in alloc; 0u8; unit]?;
+    let mut whole = Vec::with_capacity(alloc, count * unit * g.k as usize)?;
+    for stripe in 0..count {
+        join_stripe(rows, g, n, chunks, count, stripe, &mut piece, &mut whole)?;
     }
     whole.truncate(size);
     Ok(whole)
 }
 
-// Adds the chunk of each list in a stripe.
+// Adds the piece of each data position in a stripe.
 fn join_stripe(
-    lists: &[Vec<u8>],
-    unit: usize,
+    rows: &[[u8; 16]; 16],
+    g: Geometry,
+    n: u8,
+    chunks: &Chunks,
+    count: usize,
     stripe: usize,
+    piece: &mut [u8],
     whole: &mut Vec<u8>,
 ) -> Result<(), NoMemory>
-    requires long { (j : ℕ) → j < length lists.now
-        → stripe * unit + unit ≤ length (list_at (map (λ list. list.items) lists.now) j) }
-    ensures { OnOk result (whole.new.items ≡ whole.old.items
-        ++ stripe_of (length lists.now) unit (map (λ list. list.items) lists.now) stripe) }
+    requires k { g.k ≤ 16 }
+    requires n { n ≤ 16 }
+    requires lengths { AllHaveLength chunks.now (count * g.unit) }
+    requires some { count ≤ MAX_OBJECT }
+    requires inside { stripe < count }
+    requires piece { length piece.old ≡ g.unit }
+    ensures value { OnOk result (whole.new.items ≡ whole.old.items
+        ++ stripe_of g.k g.unit (made_lists g.k n rows.now chunks.now (count * g.unit)) stripe) }
+    ensures piece { length piece.new ≡ g.unit }
 {
-    for j in 0..lists.len() {
-        whole.extend_from_slice(chunk(&lists[j], stripe, unit))?;
+    let unit = g.unit as usize;
+    for j in 0..g.k as usize {
+        make_piece(n, &rows[j], chunks, stripe * unit, count * unit, piece);
+        whole.extend_from_slice(piece)?;
     }
     Ok(())
-}
-
-// The chunk with this index in a list of chunks.
-fn chunk(list: &[u8], index: usize, unit: usize) -> &[u8]
-    requires { index * unit + unit ≤ length list.now }
-    ensures value { result.now ≡ chunk_at unit list.now index }
-    ensures long { length result.now ≡ unit }
-{
-    let at = index * unit;
-    &list[at..at + unit]
 }

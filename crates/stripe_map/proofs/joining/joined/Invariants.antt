@@ -1,6 +1,8 @@
-use Rattle.std.proofs.Common.{◌≡◌, length, map}
-use Rattle.stripe_map.specs.Decoding.{stripes_of}
+use Rattle.std.proofs.Common.{◌≡◌, ◌*◌, length}
+use Rattle.stripe_map.specs.Decoding.{stripes_of, made_lists}
 use Rattle.stripe_map.proofs.joining.joined.Given as goal
 
 abbrev pub invariant-loop-stripe : goal.invariant-loop-stripe
-invariant-loop-stripe l = l.whole.items ≡ stripes_of (length l.lists) l.unit (map (λ list. list.items) l.lists) l.stripe
+invariant-loop-stripe l =
+    (length l.piece.items ≡ l.g.unit)
+    × (l.whole.items ≡ stripes_of l.g.k l.g.unit (made_lists l.g.k l.n l.rows l.chunks (l.count * l.g.unit)) l.stripe)

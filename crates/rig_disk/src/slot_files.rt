@@ -1,0 +1,241 @@
+//! The folders and files of slots: area A of slot NN is the file `slot.NN/area.A`. What they do is tested and trusted.
+ghost use Rattle.std.specs.Prelude.{◌≤◌, length, IfOk};
+
+use ec_words::NoMemory;
+use std::alloc::Global;
+use std::fs::{OpenFile, OpenOptions};
+use std::io::{ErrorKind, Read, Seek, SeekFrom, Write};
+use std::path::Path;
+use std::rt::Runtime;
+use std::{fs, io};
+
+/// The count of areas: two of each slot.
+const AREAS: usize = 34;
+
+/// The folders `slot.00` to `slot.16` of a folder, and the files in them.
+#[derive(Drop)]
+pub struct SlotFiles<T: Runtime> {
+    rt: T,
+    alloc: Global,
+    dir: String,
+    areas: Vec<AreaFile<T::File>>,
+}
+
+impl<T: Runtime> SlotFiles<T> {
+    /// The slots of a folder. It touches nothing.
+    pub fn new(rt: T, alloc: Global, dir: &str) -> Result<SlotFiles<T>, NoMemory> {
+        let mut areas = Vec::new(alloc);
+        for _ in 0..AREAS {
+            areas.push(AreaFile::Unasked)?;
+        }
+        Ok(SlotFiles {
+            rt,
+            alloc,
+            dir: String::from_str(alloc, dir)?,
+            areas,
+        })
+    }
+
+    /// Whether a slot has a folder. One that cannot be asked about has none.
+    pub fn has_slot(&self, slot: u8) -> Result<bool, NoMemory> {
+        let path = format!(in self.alloc; "{}/slot.{slot:02}", self.dir)?;
+        Ok(is_folder(&self.rt, path.as_str()))
+    }
+
+    /// Makes the folder of a slot and those above it, and syncs the folders that hold them.
+    pub fn make_slot(&self, slot: u8) -> io::Result<()> {
+        let path = format!(in self.alloc; "{}/slot.{slot:02}", self.dir)?;
+        make_folder(&self.rt, path.as_str())
+    }
+
+    /// The length of an area in bytes.
+    pub fn length(&mut self, slot: u8, area: u8) -> io::Result<u64> {
+        let index = self.ask(slot, area)?;
+        match self.areas.get(index) {
+            Some(AreaFile::Open(open)) => Ok(open.len),
+            _ => Ok(0),
+        }
+    }
+
+    /// Reads what fits and is left from `at` on. Fewer bytes than the length leaves are an error.
+    pub fn read(&mut self, slot: u8, area: u8, at: u64, into: &mut [u8]) -> io::Result<usize>
+        ensures { IfOk result (λ count. count ≤ length into.old) }
+    {
+        let index = self.ask(slot, area)?;
+        match self.areas.get_mut(index) {
+            Some(AreaFile::Open(open)) => open.read(at, into),
+            _ => Ok(0),
+        }
+    }
+
+    /// Writes from `at` on. The first write to an area makes its file.
+    pub fn write(&mut self, slot: u8, area: u8, at: u64, bytes: &[u8]) -> io::Result<()> {
+        let index = self.ask(slot, area)?;
+        if let Some(AreaFile::Missing) = self.areas.get(index) {
+            let made = self.make(slot, area)?;
+            self.put(index, made);
+        }
+        match self.areas.get_mut(index) {
+            Some(AreaFile::Open(open)) => open.write(at, bytes),
+            _ => Err(ErrorKind::NotFound.into()),
+        }
+    }
+
+    /// Leaves the first `len` bytes of an area.
+    pub fn cut(&mut self, slot: u8, area: u8, len: u64) -> io::Result<()> {
+        let index = self.ask(slot, area)?;
+        match self.areas.get_mut(index) {
+            Some(AreaFile::Open(open)) => open.cut(len),
+            _ => Ok(()),
+        }
+    }
+
+    /// Syncs an area's bytes and length, and after its file was made the folder of the slot.
+    pub fn sync(&mut self, slot: u8, area: u8) -> io::Result<()> {
+        let index = self.ask(slot, area)?;
+        let folder = format!(in self.alloc; "{}/slot.{slot:02}", self.dir)?;
+        match self.areas.get_mut(index) {
+            Some(AreaFile::Open(open)) => open.sync(&self.rt, folder.as_str()),
+            _ => Ok(()),
+        }
+    }
+
+    /// Writes to standard output.
+    pub fn say(&self, bytes: &[u8]) -> io::Result<()> {
+        self.rt.write_all(bytes)
+    }
+
+    // The place of an area's file, which is looked for at the first use.
+    fn ask(&mut self, slot: u8, area: u8) -> io::Result<usize> {
+        let index = 2 * usize::from(slot) + usize::from(area);
+        if let Some(AreaFile::Unasked) = self.areas.get(index) {
+            let found = self.find(slot, area)?;
+            self.put(index, found);
+        }
+        Ok(index)
+    }
+
+    fn put(&mut self, index: usize, file: AreaFile<T::File>) {
+        if let Some(place) = self.areas.get_mut(index) {
+            *place = file;
+        }
+    }
+
+    fn find(&self, slot: u8, area: u8) -> io::Result<AreaFile<T::File>> {
+        let path = format!(in self.alloc; "{}/slot.{slot:02}/area.{area}", self.dir)?;
+        let opened = OpenOptions::new()
+            .read(true)
+            .write(true)
+            .open(&self.rt, path.as_str());
+        match opened {
+            Ok(file) => {
+                let len = file.metadata()?.len();
+                let made = false;
+                Ok(AreaFile::Open(OpenArea { file, len, made }))
+            }
+            Err(error) if error.kind() == ErrorKind::NotFound => Ok(AreaFile::Missing),
+            Err(error) => Err(error),
+        }
+    }
+
+    fn make(&self, slot: u8, area: u8) -> io::Result<AreaFile<T::File>> {
+        let path = format!(in self.alloc; "{}/slot.{slot:02}/area.{area}", self.dir)?;
+        let file = OpenOptions::new()
+            .read(true)
+            .write(true)
+            .create_new(true)
+            .open(&self.rt, path.as_str())?;
+        let made = true;
+        Ok(AreaFile::Open(OpenArea { file, len: 0, made }))
+    }
+}
+
+/// What is known of an area's file.
+#[derive(Drop)]
+enum AreaFile<F: Drop> {
+    Unasked,
+    Missing,
+    Open(OpenArea<F>),
+}
+
+/// An area's file, which stays open from the first use on.
+#[derive(Drop)]
+struct OpenArea<F: Drop> {
+    file: F,
+    /// The length as it was first asked for, in bytes, and as the writes and cuts since changed it.
+    len: u64,
+    /// The file was made, and its folder is not yet synced since.
+    made: bool,
+}
+
+impl<F: Read + Write + Seek + OpenFile + Drop> OpenArea<F> {
+    fn read(&mut self, at: u64, into: &mut [u8]) -> io::Result<usize>
+        ensures { IfOk result (λ count. count ≤ length into.old) }
+    {
+        let count = into.len().min(self.len.saturating_sub(at) as usize);
+        if count == 0 {
+            return Ok(0);
+        }
+        self.file.seek(SeekFrom::Start(at))?;
+        self.file.read_exact(&mut into[..count])?;
+        Ok(count)
+    }
+
+    fn write(&mut self, at: u64, bytes: &[u8]) -> io::Result<()> {
+        self.file.seek(SeekFrom::Start(at))?;
+        self.file.write_all(bytes)?;
+        self.len = self.len.max(at.saturating_add(bytes.len() as u64));
+        Ok(())
+    }
+
+    fn cut(&mut self, len: u64) -> io::Result<()> {
+        let len = self.len.min(len);
+        self.file.set_len(len)?;
+        self.len = len;
+        Ok(())
+    }
+
+    fn sync<T: Runtime>(&mut self, rt: &T, folder: &str) -> io::Result<()> {
+        self.file.sync_data()?;
+        if self.made {
+            sync_folder(rt, folder)?;
+            self.made = false;
+        }
+        Ok(())
+    }
+}
+
+fn is_folder<T: Runtime>(rt: &T, path: &str) -> bool {
+    match fs::metadata(rt, path) {
+        Ok(found) => found.is_dir(),
+        Err(_) => false,
+    }
+}
+
+// Makes a folder and those above it. Then it syncs the folder that holds it, and those that hold one that was made.
+fn make_folder<T: Runtime>(rt: &T, path: &str) -> io::Result<()> {
+    let missing = count_missing(rt, path).max(1);
+    fs::create_dir_all(rt, path)?;
+    for holder in Path::new(path).ancestors().skip(1).take(missing) {
+        sync_folder(rt, holder.as_str())?;
+    }
+    Ok(())
+}
+
+// How many of a folder and those above it are not there.
+fn count_missing<T: Runtime>(rt: &T, path: &str) -> usize {
+    let mut missing = 0usize;
+    for folder in Path::new(path).ancestors() {
+        if is_folder(rt, folder.as_str()) {
+            break;
+        }
+        missing = missing.saturating_add(1);
+    }
+    missing
+}
+
+// Syncs the names in a folder. The empty path is the folder at work.
+fn sync_folder<T: Runtime>(rt: &T, path: &str) -> io::Result<()> {
+    let path = if path.is_empty() { "." } else { path };
+    fs::open(rt, path)?.sync_all()
+}

@@ -1,0 +1,9 @@
+pub mod FrontLemmas
+pub mod PastLemmas
+pub mod PutLemmas
+pub mod ReadingLemmas
+pub mod ReplayLemmas
+pub mod StepLemmas
+pub mod StepReadingLemmas
+pub mod UndoLemmas
+pub mod VersionLemmas

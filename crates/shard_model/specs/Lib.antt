@@ -1,0 +1,11 @@
+pub mod Changes
+pub mod Fronts
+pub mod Laws
+pub mod Limits
+pub mod Objects
+pub mod Replays
+pub mod Shards
+pub mod States
+pub mod StepBytes
+pub mod StepReading
+pub mod Steps

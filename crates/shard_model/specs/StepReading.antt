@@ -1,0 +1,175 @@
+-- How steps are read off bytes, from the front. Source: this project. `IsReadingOf` ties each reader to the bytes that it
+-- reads.
+use Rattle.std.specs.Prelude.{◌≡◌, ◌<◌, ℕ, zero, suc, nat_le, ◌==◌, if◌then◌else◌, List, [], ◌∷◌, ◌++◌, length, take, drop, Option, Some, None}
+use Rattle.std.specs.List.{AllByRecursion}
+use Rattle.std.specs.Int.{w32, w64, from_be_bytes}
+use Rattle.ec_model.specs.Versions.{Version}
+use Rattle.ec_words.specs.Names.{is_name}
+use Rattle.shard_model.specs.Changes.{Change, Write, Replace, Remove, SetAttr, RemoveAttr}
+use Rattle.shard_model.specs.Steps.{Back, Firm, Trim, Started, Partial, Put, Drop, Clear, Reset, Step, Enter, Rule, Copy}
+
+-- from a text: what its front says, and the rest; or nothing where it says none
+abbrev pub Reader : Type 0 → Type 0
+Reader X = List ℕ → Option (X × List ℕ)
+
+-- a text, all of whose bytes are bytes
+abbrev pub AreBytes : List ℕ → Type 0
+AreBytes text = AllByRecursion (λ b. b < 256) text
+
+-- a reader reads exactly the values that have a place in the bytes, off these
+pub record IsReadingOf {X : Type 0} (reader : Reader X) (bytes_of : X → List ℕ) (Has : X → Type 0) : Type 0 where
+  pub reads : (text : List ℕ) (x : X) (rest : List ℕ) → AreBytes text → reader text ≡ Some (x, rest) → Has x × (text ≡ bytes_of x ++ rest)
+  pub spelled : (x : X) (rest : List ℕ) → Has x → reader (bytes_of x ++ rest) ≡ Some (x, rest)
+
+-- what was read, and another reading of the rest
+abbrev pub and_then : {X Y : Type 0} → Option (X × List ℕ) → (X → Reader Y) → Option (Y × List ℕ)
+and_then None f = None
+and_then (Some p) f = f p.0 p.1
+
+-- a reading in another form
+abbrev pub mapped : {X Y : Type 0} → (X → Y) → Reader X → Reader Y
+mapped f reader text = and_then (reader text) (λ x rest. Some (f x, rest))
+
+-- one reading after another
+abbrev pub both : {X Y : Type 0} → Reader X → Reader Y → Reader (X × Y)
+both first second text = and_then (first text) (λ x rest. and_then (second rest) (λ y rest. Some ((x, y), rest)))
+
+abbrev pub read_byte : Reader ℕ
+read_byte [] = None
+read_byte (b ∷ rest) = Some (b, rest)
+
+abbrev pub read_u32 : Reader ℕ
+read_u32 text = if nat_le 4 (length text) then Some (from_be_bytes w32 (take 4 text), drop 4 text) else None
+
+abbrev pub read_u64 : Reader ℕ
+read_u64 text = if nat_le 8 (length text) then Some (from_be_bytes w64 (take 8 text), drop 8 text) else None
+
+-- this many bytes
+abbrev pub read_list : ℕ → Reader (List ℕ)
+read_list n text = if nat_le n (length text) then Some (take n text, drop n text) else None
+
+abbrev pub if_name : List ℕ → Reader (List ℕ)
+if_name name rest = if is_name name then Some (name, rest) else None
+
+abbrev pub read_named : ℕ → Reader (List ℕ)
+read_named n text = and_then (read_list n text) if_name
+
+abbrev pub read_name : Reader (List ℕ)
+read_name text = and_then (read_byte text) read_named
+
+abbrev pub read_counted : Reader (List ℕ)
+read_counted text = and_then (read_u32 text) read_list
+
+abbrev pub version_from : ℕ × ℕ → Version
+version_from p = record { epoch = p.0; seq = p.1 }
+
+abbrev pub read_version : Reader Version
+read_version = mapped version_from (both read_u32 read_u64)
+
+-- an attribute's name and value
+abbrev pub read_pair : Reader (List ℕ × List ℕ)
+read_pair = both read_name read_counted
+
+abbrev pub pushed : (List ℕ × List ℕ) × List (List ℕ × List ℕ) → List (List ℕ × List ℕ)
+pushed p = p.0 ∷ p.1
+
+-- this many attributes
+abbrev pub read_pairs : ℕ → Reader (List (List ℕ × List ℕ))
+read_pairs zero text = Some ([], text)
+read_pairs (suc n) text = mapped pushed (both read_pair (read_pairs n)) text
+
+abbrev pub read_attrs : Reader (List (List ℕ × List ℕ))
+read_attrs text = and_then (read_byte text) read_pairs
+
+-- version, version before it, name
+abbrev pub Head : Type 0
+Head = Version × (Version × List ℕ)
+
+abbrev pub read_head : Reader Head
+read_head = both read_version (both read_version read_name)
+
+-- an entry's step with a change of some parts
+abbrev pub entry_of : {C : Type 0} → (C → Change) → Head × C → Step
+entry_of change p = Enter (record { version = p.0.0; prior = p.0.1.0; name = p.0.1.1; change = change p.1 })
+
+abbrev pub write_of : ℕ × (ℕ × (ℕ × List ℕ)) → Change
+write_of p = Write p.0 p.1.0 p.1.1.0 p.1.1.1
+
+abbrev pub replace_of : ℕ × List ℕ → Change
+replace_of p = Replace p.0 p.1
+
+abbrev pub set_attr_of : List ℕ × List ℕ → Change
+set_attr_of p = SetAttr p.0 p.1
+
+abbrev pub put_of : List ℕ × (ℕ × (List ℕ × List (List ℕ × List ℕ))) → Step
+put_of p = Copy (Put p.0 p.1.0 p.1.1.0 p.1.1.1)
+
+abbrev pub reset_of : Version × ℕ → Step
+reset_of p = Copy (Reset p.0 p.1)
+
+abbrev pub removed_of : Head → Step
+removed_of h = Enter (record { version = h.0; prior = h.1.0; name = h.1.1; change = Remove })
+
+abbrev pub read_write : Reader Step
+read_write = mapped (entry_of write_of) (both read_head (both read_byte (both read_u32 (both read_u32 read_counted))))
+
+abbrev pub read_replace : Reader Step
+read_replace = mapped (entry_of replace_of) (both read_head (both read_u32 read_counted))
+
+abbrev pub read_remove : Reader Step
+read_remove = mapped removed_of read_head
+
+abbrev pub read_set_attr : Reader Step
+read_set_attr = mapped (entry_of set_attr_of) (both read_head (both read_name read_counted))
+
+abbrev pub read_remove_attr : Reader Step
+read_remove_attr = mapped (entry_of RemoveAttr) (both read_head read_name)
+
+abbrev pub read_back : Reader Step
+read_back = mapped (λ v. Rule (Back v)) read_version
+
+abbrev pub read_started : Reader Step
+read_started = mapped (λ epoch. Rule (Started epoch)) read_u32
+
+abbrev pub read_firm : Reader Step
+read_firm = mapped (λ v. Rule (Firm v)) read_version
+
+abbrev pub read_trim : Reader Step
+read_trim = mapped (λ v. Rule (Trim v)) read_version
+
+abbrev pub read_partial : Reader Step
+read_partial text = Some (Rule Partial, text)
+
+abbrev pub read_put : Reader Step
+read_put = mapped put_of (both read_name (both read_u32 (both read_counted read_attrs)))
+
+abbrev pub read_drop : Reader Step
+read_drop = mapped (λ name. Copy (Drop name)) read_name
+
+abbrev pub read_clear : Reader Step
+read_clear text = Some (Copy Clear, text)
+
+abbrev pub read_reset : Reader Step
+read_reset = mapped reset_of (both read_version read_u32)
+
+-- a step of this kind
+abbrev pub read_kind : ℕ → Reader Step
+read_kind kind text =
+    if kind == 1 then read_write text
+    else if kind == 2 then read_replace text
+    else if kind == 3 then read_remove text
+    else if kind == 4 then read_set_attr text
+    else if kind == 5 then read_remove_attr text
+    else if kind == 6 then read_back text
+    else if kind == 7 then read_started text
+    else if kind == 8 then read_firm text
+    else if kind == 9 then read_trim text
+    else if kind == 10 then read_partial text
+    else if kind == 11 then read_put text
+    else if kind == 12 then read_drop text
+    else if kind == 13 then read_clear text
+    else if kind == 14 then read_reset text
+    else None
+
+abbrev pub read_step : Reader Step
+read_step text = and_then (read_byte text) read_kind

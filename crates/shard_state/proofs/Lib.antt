@@ -1,0 +1,15 @@
+pub mod AscendLemmas
+pub mod AttrLemmas
+pub mod DecodingLemmas
+pub mod EncodingLemmas
+pub mod HoldLemmas
+pub mod KeepLemmas
+pub mod LogLemmas
+pub mod MapLemmas
+pub mod OrderLemmas
+pub mod PairLemmas
+pub mod PlaceLemmas
+pub mod SoundLemmas
+pub mod SpotLemmas
+pub mod StateLemmas
+pub mod WayLemmas

@@ -1,0 +1,17 @@
+use Rattle.std.proofs.Common.{◌-◌, length, ap, Err, rules}
+use Rattle.shard_state.proofs.DecodingLemmas.{read_on, read_less, first_bad}
+use Rattle.shard_state.proofs.decoding.decode_steps.Goals as goal
+
+pub loop-reader-smaller : goal.loop-reader-smaller
+loop-reader-smaller c = read_less c.loop-reader.reader c.read_step.new.reader c.in-Ok.step c.loop-reader.invariant.bytes c.in-Ok.ensures.value
+
+pub loop-reader-preserved : goal.loop-reader-preserved
+loop-reader-preserved c =
+    read_on c.args.text.now c.loop-reader.list.items c.push.new.self.items c.loop-reader.reader c.read_step.new.reader c.in-Ok.step
+    c.loop-reader.invariant c.in-Ok.ensures.value c.in-Ok-push.ensures.items
+
+pub returns-in-Err-NoStep-clause-bad_step : goal.returns-in-Err-NoStep-clause-bad_step
+returns-in-Err-NoStep-clause-bad_step c =
+    first_bad c.args.text.now c.loop-reader.list.items c.loop-reader.reader (length c.args.text.now - length c.rest-in-loop-reader.result.now)
+    c.loop-reader.invariant (c.in-Err-NoStep.ensures.no_step (ap Err c.in-Err-NoStep.field-0-is)) (search rules)
+    (ap (λ t. length c.args.text.now - length t) c.rest-in-loop-reader.ensures)

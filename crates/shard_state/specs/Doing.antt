@@ -1,0 +1,60 @@
+-- What a change does to an object. Source: this project.
+use Rattle.std.specs.Prelude.{◌≡◌, ◌≤◌, ℕ, Bool, true, false, Option, Some, None, take, drop, []}
+use Rattle.shard_model.specs.Limits.{max_attrs}
+use Rattle.shard_model.specs.Objects.{ShardObject, Geometry as Meant}
+use Rattle.shard_model.specs.Changes.{Change, Write, Replace, Remove, SetAttr, RemoveAttr, Undo, Fresh, Extent, changed, undo_of}
+use Rattle.shard_model.specs.Steps.{Step, Enter, Rule, Copy, Put, Drop, Clear, Reset}
+use Rattle.shard_model.specs.States.{State}
+use Rattle.ec_model.specs.Versions.{zero_version}
+use Rattle.std.specs.FinMap as map
+
+-- the change of an entry; of another step none that counts
+abbrev pub change_in : Step → Change
+change_in (Enter e) = e.change
+change_in (Rule control) = Remove
+change_in (Copy copying) = Remove
+
+abbrev pub is_entry : Step → Bool
+is_entry (Enter e) = true
+is_entry (Rule control) = false
+is_entry (Copy copying) = false
+
+-- to put an attribute back there has to be room for one
+abbrev pub HasRoomFor : Change → ℕ → Type 0
+HasRoomFor (Write fresh size at bytes) room = Unit {0}
+HasRoomFor (Replace size bytes) room = Unit {0}
+HasRoomFor Remove room = Unit {0}
+HasRoomFor (SetAttr attr value) room = Unit {0}
+HasRoomFor (RemoveAttr attr) room = max_attrs ≤ room
+
+-- an object is changed, and this takes it back
+pub record DoesChange (g : Meant) (change : Change) (before now : Option ShardObject) (back : Undo) (spare : ℕ) : Type 0 where
+  pub after : now ≡ changed g change before
+  pub undo : back ≡ undo_of change before
+  pub room : HasRoomFor change spare
+
+-- what takes a write of `len` bytes at `at` back
+abbrev pub write_undo : ℕ → ℕ → Option ShardObject → Undo
+write_undo at len None = Fresh
+write_undo at len (Some o) = Extent o.size at (take len (drop at o.bytes))
+
+-- the step takes no memory
+abbrev pub takes_none : Step → Bool
+takes_none (Enter e) = false
+takes_none (Rule control) = true
+takes_none (Copy (Put name size bytes attrs)) = false
+takes_none (Copy (Drop name)) = true
+takes_none (Copy Clear) = true
+takes_none (Copy (Reset v epoch)) = true
+
+-- the state before any step
+abbrev pub fresh_state : State
+fresh_state = record {
+  objects = map.empty;
+  log = [];
+  tail = zero_version;
+  firm = zero_version;
+  head = zero_version;
+  les = 0;
+  partial = false;
+}

@@ -1,0 +1,10 @@
+pub mod Doing
+pub mod EntryMeanings
+pub mod Faults
+pub mod Inner
+pub mod Places
+pub mod Records
+pub mod Sound
+pub mod Spots
+pub mod StepMeanings
+pub mod Ways

@@ -1,0 +1,40 @@
+//! The state of one shard: its objects, its log, and what takes each entry back.
+//!
+//! Headline: [`ShardState::undo_to`] gives the objects that a replay of the steps from the base has at the version, and
+//! [`ShardState::apply`] gives the state with one step more, or `Misfit` exactly where the step does not fit.
+//!
+//! With two data chunks in units of 4 bytes: a write of `1 1 1 1` at 4 makes an object of 16 bytes `0 0 0 0 1 1 1 1` here; a
+//! write of `2 2 2 2` over it keeps the size and the four bytes before, and going back to the first write puts them back.
+//!
+//! docs/FORMAT.md has the bytes of the steps.
+#![tactic(auto)]
+
+mod attrs;
+mod change;
+mod decoding;
+mod encoding;
+mod entry;
+mod fault;
+mod fit;
+mod held;
+mod kinds;
+mod limits;
+mod log;
+mod pairs;
+mod places;
+mod reading;
+mod record;
+mod state;
+mod step;
+mod steps;
+
+pub use attrs::Attrs;
+pub use decoding::decode_steps;
+pub use encoding::encode_steps;
+pub use entry::{Entry, Kind, Logged, Undo};
+pub use fault::{StepFault, StepsFault, UndoFault};
+pub use held::Held;
+pub use pairs::Pairs;
+pub use state::ShardState;
+pub use step::Step;
+pub use steps::Steps;

@@ -1,0 +1,598 @@
+//! The state of a shard.
+ghost use Rattle.std.specs.Prelude.{◌≡◌, ◌≤◌, ◌<◌, ◌+◌, get_or, IfSome, IsNone, ◌*◌, ◌↔◌, ◌&&◌, ◌==◌, nat_lt, nat_le, List, ℕ, Err, false, OnOk, OnErr, IfOk, IfErr, IsSome, None, true, length};
+ghost use Rattle.std.specs.Option.{option_copied};
+ghost use Rattle.std.specs.Result.{IsErr};
+ghost use Rattle.std.specs.FinMap as map;
+ghost use Rattle.ec_model.specs.Versions.{zero_version};
+ghost use Rattle.shard_model.specs.Objects.{MayBeHeld, put};
+ghost use Rattle.shard_model.specs.Changes.{Change, fits_change, changed, restored, kind_of as kind_of_change, undo_of as undo_of_change};
+ghost use Rattle.shard_state.specs.Sound.{IsSound};
+ghost use Rattle.shard_model.specs.Steps.{Enter, Rule, Copy, Back, Started, Firm, Trim, Partial, Drop as DropName, Clear, Reset, Put};
+ghost use Rattle.shard_model.specs.States.{Logged as Meant, holds, fits, follows, is_known, brought};
+ghost use Rattle.shard_model.specs.Limits.{seq_limit};
+ghost use Rattle.std.specs.Ordering.{nat_cmp};
+ghost use Rattle.std.specs.Cmp.Lexicographic.{slice_cmp};
+ghost use Rattle.shard_state.specs.Doing.{takes_none, fresh_state};
+ghost use Rattle.shard_model.specs.Shards.{stepped};
+ghost use Rattle.shard_state.specs.Places.{joined, inside, HasMade};
+ghost use Rattle.shard_state.specs.Doing.{change_in, is_entry, HasRoomFor};
+ghost use Rattle.shard_state.specs.EntryMeanings.{undo_of, kind_of, logged_of};
+ghost use Rattle.shard_state.specs.StepMeanings.{step_of};
+ghost use Rattle.shard_state.specs.Ways.{UndoesNewest, GivesThePast};
+
+use crate::attrs::{Attrs, Spare};
+use crate::change::{apply_change, taken_back};
+use crate::entry::{Entry, Kind, Logged, Undo};
+use crate::fault::{StepFault, UndoFault};
+use crate::fit::{fits_put, fits_remove_attr, fits_replace, fits_set_attr, fits_write};
+use crate::held::Held;
+use crate::limits::SEQ_LIMIT;
+use crate::log::{front_len, is_logged, settle_to, trim_to};
+use crate::pairs::Pairs;
+use crate::places::Places;
+use crate::record::Record;
+use crate::step::Step;
+use ec_words::{Bytes, Geometry, Name, NoMemory, Version};
+use std::alloc::Global;
+use std::marker::Model;
+
+/// What a shard holds: its objects, its log, and what takes each entry back. A contract sees the geometry and the state.
+#[derive(Drop)]
+pub struct ShardState {
+    alloc: Global,
+    geometry: Geometry,
+    places: Places,
+    log: Vec<Record>,
+    tail: Version,
+    firm: Version,
+    head: Version,
+    les: u32,
+    partial: bool,
+}
+
+impl Model for ShardState {
+    ghost use Rattle.shard_model.specs.Shards.{Shard, shard_code};
+
+    ghost Value = { Shard };
+
+    ghost coded = { shard_code };
+
+    ghost use Rattle.shard_state.specs.Inner.{shard_of, IsKeptIn};
+
+    ghost view = { shard_of };
+
+    ghost invariant = { IsKeptIn };
+}
+
+impl ShardState {
+    /// A shard with no objects: versions (0, 0), epoch 0, not partial. It takes no memory yet.
+    pub fn fresh(alloc: Global, g: Geometry) -> ShardState
+        ensures { result ≡ record { geometry = record { k = g.k; unit = g.unit }; state = fresh_state } }
+    {
+        let zero = Version { epoch: 0, seq: 0 };
+        ShardState {
+            alloc,
+            geometry: g,
+            places: Places::new(alloc),
+            log: Vec::new(alloc),
+            tail: zero,
+            firm: zero,
+            head: zero,
+            les: 0,
+            partial: false,
+        }
+    }
+
+    /// The geometry that the shard was made with.
+    pub fn geometry(&self) -> Geometry
+        ensures k { result.k ≡ self.now.geometry.k }
+        ensures unit { result.unit ≡ self.now.geometry.unit }
+    {
+        self.geometry
+    }
+
+    /// The object with this name. `None` exactly where there is none.
+    pub fn object(&self, name: &Name) -> Option<&Held>
+        ensures { option_copied result ≡ map.get self.now.state.objects name.now }
+    {
+        self.places.get(name)
+    }
+
+    /// The version of the last entry.
+    pub fn head(&self) -> Version
+        ensures { result ≡ self.now.state.head }
+    {
+        self.head
+    }
+
+    /// The last epoch started.
+    pub fn les(&self) -> u32
+        ensures { result ≡ self.now.state.les }
+    {
+        self.les
+    }
+
+    /// No entry up to this version can be taken back.
+    pub fn firm(&self) -> Version
+        ensures { result ≡ self.now.state.firm }
+    {
+        self.firm
+    }
+
+    /// The version before the log's first entry.
+    pub fn tail(&self) -> Version
+        ensures { result ≡ self.now.state.tail }
+    {
+        self.tail
+    }
+
+    /// Whether the shard is being filled.
+    pub fn partial(&self) -> bool
+        ensures { result ≡ self.now.state.partial }
+    {
+        self.partial
+    }
+
+    /// The number of the log's entries.
+    pub fn log_len(&self) -> usize
+        ensures { result ≡ length self.now.state.log }
+    {
+        self.log.len()
+    }
+
+    /// What the log says of the entry with this index, oldest first. `None` exactly where there are no more than `i`.
+    pub fn logged(&self, i: usize) -> Option<&Logged>
+        ensures none { IsNone result ↔ (length self.now.state.log ≤ i) }
+        ensures value { IfSome result (λ what. (d : Meant) → logged_of what.now (get_or self.now.state.log i d).undo ≡ get_or self.now.state.log i d) }
+    {
+        if i < self.log.len() {
+            Some(&self.log[i].entry.what)
+        } else {
+            None
+        }
+    }
+
+    /// What takes the entry with this index, oldest first, back.
+    pub fn undo_of(&self, i: usize) -> &Undo
+        requires { i < length self.now.state.log }
+        ensures { (d : Meant) → undo_of result.now ≡ (get_or self.now.state.log i d).undo }
+    {
+        &self.log[i].entry.undo
+    }
+
+    /// Whether the shard can go back to a version: exactly where it is the tail or a logged version, and not below `firm`.
+    pub fn holds(&self, version: Version) -> bool
+        ensures { result ≡ holds self.now.state version }
+    {
+        if !self.firm.is_up_to(&version) {
+            return false;
+        }
+        if self.tail.is_same(&version) {
+            return true;
+        }
+        self.tail.is_up_to(&version) && is_logged(&self.log, &version)
+    }
+
+    /// Goes back to a version that is held: the newest entry is taken back first. It takes no memory, and `NoMemory` does not
+    /// come.
+    pub fn undo_to(&mut self, version: Version) -> Result<(), UndoFault>
+        requires { self.old.state.partial ≡ false }
+        ensures ok { OnOk result (self.new ≡ stepped self.old (Rule (Back version))) }
+        ensures past { OnOk result (GivesThePast self.old self.new version) }
+        ensures no_undo { IsErr result ↔ (holds self.old.state version ≡ false) }
+        ensures fault { IfErr result (λ fault. fault ≡ UndoFault.NoUndo version) }
+        ensures unchanged { OnErr result (self.new ≡ self.old) }
+    {
+        if !self.holds(version) {
+            return Err(UndoFault::NoUndo { at: version });
+        }
+        self.back(&version);
+        Ok(())
+    }
+
+    /// Takes the entries after a version back, the newest first.
+    fn back(&mut self, version: &Version)
+        requires { fits self.old.geometry self.old.state (Rule (Back version.now)) ≡ true }
+        ensures value { self.new ≡ stepped self.old (Rule (Back version.now)) }
+        ensures stripes { 0 < self.old.geometry.k * self.old.geometry.unit }
+    {
+        let cut = front_len(&self.log, version);
+        while self.log.len() > cut {
+            self.undo_newest();
+        }
+        self.head = *version;
+    }
+
+    /// An object is brought.
+    fn put(&mut self, name: &Name, size: u32, bytes: &Bytes, attrs: &Pairs) -> Result<(), NoMemory>
+        requires { fits self.old.geometry self.old.state (Copy (Put name.now size bytes.now attrs.now)) ≡ true }
+        ensures ok { OnOk result (self.new ≡ stepped self.old (Copy (Put name.now size bytes.now attrs.now))) }
+        ensures unchanged { OnErr result (self.new ≡ self.old) }
+    {
+        let held = brought(self.alloc, size, bytes, attrs)?;
+        make_place(&mut self.places, self.alloc, name)?;
+        self.places.set(name, Some(held));
+        Ok(())
+    }
+
+    /// Does a step, or leaves the state as it was.
+    pub fn apply(&mut self, step: &Step) -> Result<(), StepFault>
+        ensures ok { OnOk result (self.new ≡ stepped self.old (step_of step.now)) }
+        ensures misfit { (result ≡ Err StepFault.Misfit) ↔ (fits self.old.geometry self.old.state (step_of step.now) ≡ false) }
+        ensures unchanged { OnErr result (self.new ≡ self.old) }
+    {
+        if !self.fits(step) {
+            return Err(StepFault::Misfit);
+        }
+        match self.perform(step) {
+            Ok(()) => Ok(()),
+            Err(_) => Err(StepFault::NoMemory),
+        }
+    }
+
+    /// Whether a step may come now.
+    fn fits(&self, step: &Step) -> bool
+        ensures { result ≡ fits self.now.geometry self.now.state (step_of step.now) }
+    {
+        match step {
+            Step::Write {
+                version,
+                prior,
+                name,
+                fresh,
+                size,
+                at,
+                bytes,
+            } => {
+                self.follows(version, prior)
+                    && fits_write(
+                        self.geometry,
+                        self.object(name),
+                        *fresh,
+                        *size,
+                        *at,
+                        bytes.as_slice(),
+                    )
+            }
+            Step::Replace {
+                version,
+                prior,
+                size,
+                bytes,
+                ..
+            } => {
+                self.follows(version, prior) && fits_replace(self.geometry, *size, bytes.as_slice())
+            }
+            Step::Remove {
+                version,
+                prior,
+                name,
+            } => { self.follows(version, prior) && self.object(name).is_some() }
+            Step::SetAttr {
+                version,
+                prior,
+                name,
+                attr,
+                value,
+            } => {
+                self.follows(version, prior)
+                    && fits_set_attr(self.geometry, self.object(name), attr, value.as_slice())
+            }
+            Step::RemoveAttr {
+                version,
+                prior,
+                name,
+                attr,
+            } => {
+                self.follows(version, prior)
+                    && fits_remove_attr(self.geometry, self.object(name), attr)
+            }
+            Step::Back(version) => !self.partial && self.holds(*version),
+            Step::Started(epoch) => !self.partial && self.les < *epoch,
+            Step::Firm(version) => !self.partial && self.holds(*version),
+            Step::Trim(version) => {
+                !self.partial && (self.knows(version) && version.is_up_to(&self.firm))
+            }
+            Step::Partial => true,
+            Step::Put {
+                size,
+                bytes,
+                attrs,
+                ..
+            } => {
+                self.partial && fits_put(self.geometry, *size, bytes.as_slice(), attrs.as_slice())
+            }
+            Step::Drop(_) => self.partial,
+            Step::Clear => self.partial,
+            Step::Reset(version, _) => self.partial && version.seq < SEQ_LIMIT,
+        }
+    }
+
+    /// Whether an entry's version follows the head.
+    fn follows(&self, version: &Version, prior: &Version) -> bool
+        ensures { (name : List ℕ) (change : Change) → result ≡ follows self.now.state (record { version = version.now; prior = prior.now; name = name; change = change }) }
+    {
+        !self.partial && (prior.is_same(&self.head) && is_next(version, prior))
+    }
+
+    /// Whether a version is the tail or a logged one.
+    fn knows(&self, version: &Version) -> bool
+        ensures { result ≡ is_known self.now.state version.now }
+    {
+        if self.tail.is_same(version) {
+            return true;
+        }
+        self.tail.is_up_to(version) && is_logged(&self.log, version)
+    }
+
+    /// Does a step that fits.
+    fn perform(&mut self, step: &Step) -> Result<(), NoMemory>
+        requires { fits self.old.geometry self.old.state (step_of step.now) ≡ true }
+        ensures ok { OnOk result (self.new ≡ stepped self.old (step_of step.now)) }
+        ensures unchanged { OnErr result (self.new ≡ self.old) }
+    {
+        match step {
+            Step::Write {
+                version,
+                prior,
+                name,
+                ..
+            } => self.enter(step, version, prior, name, Kind::Write),
+            Step::Replace {
+                version,
+                prior,
+                name,
+                ..
+            } => self.enter(step, version, prior, name, Kind::Replace),
+            Step::Remove {
+                version,
+                prior,
+                name,
+            } => self.enter(step, version, prior, name, Kind::Remove),
+            Step::SetAttr {
+                version,
+                prior,
+                name,
+                ..
+            } => self.enter(step, version, prior, name, Kind::SetAttr),
+            Step::RemoveAttr {
+                version,
+                prior,
+                name,
+                ..
+            } => self.enter(step, version, prior, name, Kind::RemoveAttr),
+            Step::Put {
+                name,
+                size,
+                bytes,
+                attrs,
+            } => self.put(name, *size, bytes, attrs),
+            _ => {
+                self.rule(step);
+                Ok(())
+            }
+        }
+    }
+
+    /// Does a step that fits and takes no memory.
+    fn rule(&mut self, step: &Step)
+        requires plain { takes_none (step_of step.now) ≡ true }
+        requires fits { fits self.old.geometry self.old.state (step_of step.now) ≡ true }
+        ensures { self.new ≡ stepped self.old (step_of step.now) }
+    {
+        match step {
+            Step::Back(version) => self.back(version),
+            Step::Started(epoch) => self.start_epoch(*epoch),
+            Step::Firm(version) => self.settle(version),
+            Step::Trim(version) => self.trim(version),
+            Step::Partial => self.begin_copy(),
+            Step::Drop(name) => self.forget(name),
+            Step::Clear => self.clear(),
+            Step::Reset(version, epoch) => self.end_copy(version, *epoch),
+            _ => unreachable!(),
+        }
+    }
+
+    /// An epoch is started.
+    fn start_epoch(&mut self, epoch: u32)
+        requires { fits self.old.geometry self.old.state (Rule (Started epoch)) ≡ true }
+        ensures { self.new ≡ stepped self.old (Rule (Started epoch)) }
+    {
+        self.les = epoch;
+    }
+
+    /// Nothing takes the entries up to a version back any more.
+    fn settle(&mut self, version: &Version)
+        requires { fits self.old.geometry self.old.state (Rule (Firm version.now)) ≡ true }
+        ensures { self.new ≡ stepped self.old (Rule (Firm version.now)) }
+    {
+        settle_to(&mut self.log, version);
+        self.firm = *version;
+    }
+
+    /// The log begins after a version.
+    fn trim(&mut self, version: &Version)
+        requires { fits self.old.geometry self.old.state (Rule (Trim version.now)) ≡ true }
+        ensures { self.new ≡ stepped self.old (Rule (Trim version.now)) }
+    {
+        trim_to(&mut self.log, version);
+        self.tail = *version;
+    }
+
+    /// From now on the shard is filled anew.
+    fn begin_copy(&mut self)
+        ensures { self.new ≡ stepped self.old (Rule Partial) }
+    {
+        self.log.clear();
+        self.partial = true;
+    }
+
+    /// There is no object with this name.
+    fn forget(&mut self, name: &Name)
+        requires { fits self.old.geometry self.old.state (Copy (DropName name.now)) ≡ true }
+        ensures { self.new ≡ stepped self.old (Copy (DropName name.now)) }
+    {
+        empty_place(&mut self.places, name);
+    }
+
+    /// There are no objects.
+    fn clear(&mut self)
+        requires { fits self.old.geometry self.old.state (Copy Clear) ≡ true }
+        ensures { self.new ≡ stepped self.old (Copy Clear) }
+    {
+        self.places = Places::new(self.alloc);
+    }
+
+    /// The shard is whole, at a version and an epoch.
+    fn end_copy(&mut self, version: &Version, epoch: u32)
+        requires { fits self.old.geometry self.old.state (Copy (Reset version.now epoch)) ≡ true }
+        ensures { self.new ≡ stepped self.old (Copy (Reset version.now epoch)) }
+    {
+        let version = *version;
+        self.tail = version;
+        self.firm = version;
+        self.head = version;
+        self.les = epoch;
+        self.partial = false;
+    }
+
+    /// Does an entry's step that fits.
+    fn enter(
+        &mut self,
+        step: &Step,
+        version: &Version,
+        prior: &Version,
+        name: &Name,
+        kind: Kind,
+    ) -> Result<(), NoMemory>
+        requires entry { step_of step.now ≡ Enter (record { version = version.now; prior = prior.now; name = name.now; change = change_in (step_of step.now) }) }
+        requires kind { kind_of kind ≡ kind_of_change (change_in (step_of step.now)) }
+        requires fits { fits self.old.geometry self.old.state (step_of step.now) ≡ true }
+        ensures ok { OnOk result (self.new ≡ stepped self.old (step_of step.now)) }
+        ensures unchanged { OnErr result (self.new ≡ self.old) }
+    {
+        self.log.reserve(1)?;
+        let logged_name = name.copy(self.alloc)?;
+        make_place(&mut self.places, self.alloc, name)?;
+        let (undo, spare) = change_place(&mut self.places, self.alloc, self.geometry, step, name)?;
+        let what = Logged {
+            version: *version,
+            prior: *prior,
+            name: logged_name,
+            kind,
+        };
+        let entry = Entry { what, undo };
+        match self.log.push(Record { entry, spare }) {
+            Ok(()) => {}
+            Err(_) => unreachable!(),
+        }
+        self.head = *version;
+        Ok(())
+    }
+
+    /// Takes the newest entry back. It takes no memory.
+    fn undo_newest(&mut self)
+        requires { 0 < length self.old.state.log }
+        ensures { UndoesNewest self.old self.new }
+    {
+        match self.log.pop() {
+            None => unreachable!(),
+            Some(record) => {
+                let Record { entry, spare } = record;
+                restore_place(
+                    &mut self.places,
+                    self.geometry,
+                    entry.what.name,
+                    entry.undo,
+                    spare,
+                );
+            }
+        }
+    }
+}
+
+/// Whether a version comes right after another.
+fn is_next(version: &Version, prior: &Version) -> bool
+    ensures { result ≡ (version.now.seq == prior.now.seq + 1
+        && (nat_lt version.now.seq seq_limit && (nat_le 1 version.now.epoch && nat_le prior.now.epoch version.now.epoch))) }
+{
+    prior.seq < version.seq
+        && (version.seq - prior.seq == 1
+            && (version.seq < SEQ_LIMIT && (1 <= version.epoch && prior.epoch <= version.epoch)))
+}
+
+/// The object that a `Put` brings.
+fn brought(alloc: Global, size: u32, bytes: &Bytes, attrs: &Pairs) -> Result<Held, NoMemory>
+    requires { map.is_sorted (slice_cmp nat_cmp) attrs.now ≡ true }
+    ensures { IfOk result (λ held. held ≡ brought size bytes.now attrs.now) }
+{
+    let bytes = Bytes::from_slice(alloc, bytes.as_slice())?;
+    let attrs = Attrs::from_pairs(alloc, attrs)?;
+    Ok(Held { bytes, size, attrs })
+}
+
+/// Nothing lies in the place of a name, if it has one.
+fn empty_place(places: &mut Places, name: &Name)
+    ensures { inside places.new ≡ put (inside places.old) name.now None }
+{
+    if places.has(name) {
+        places.set(name, None);
+    }
+}
+
+/// Makes a place for a name where there is none; what lies in the others stays.
+fn make_place(places: &mut Places, alloc: Global, name: &Name) -> Result<(), NoMemory>
+    ensures made { OnOk result (HasMade name.now places.old places.new) }
+    ensures unchanged { OnErr result (places.new ≡ places.old) }
+{
+    if !places.has(name) {
+        let copy = name.copy(alloc)?;
+        places.make(copy)?;
+    }
+    Ok(())
+}
+
+/// Does an entry's step to what lies in the place of its name.
+fn change_place(
+    places: &mut Places,
+    alloc: Global,
+    g: Geometry,
+    step: &Step,
+    name: &Name,
+) -> Result<(Undo, Spare), NoMemory>
+    requires placed { IsSome (map.get places.old name.now) }
+    requires entry { is_entry (step_of step.now) ≡ true }
+    requires held { MayBeHeld (record { k = g.k; unit = g.unit }) (joined (map.get places.old name.now)) }
+    requires fits { fits_change (record { k = g.k; unit = g.unit }) (change_in (step_of step.now)) (joined (map.get places.old name.now)) ≡ true }
+    ensures ok { OnOk result (places.new ≡ map.insert places.old name.now
+        (changed (record { k = g.k; unit = g.unit }) (change_in (step_of step.now)) (joined (map.get places.old name.now)))) }
+    ensures undo { IfOk result (λ done. (undo_of done.0 ≡ undo_of_change (change_in (step_of step.now)) (joined (map.get places.old name.now)))
+        × HasRoomFor (change_in (step_of step.now)) done.1) }
+    ensures unchanged { OnErr result (places.new ≡ places.old) }
+{
+    let before = places.set(name, None);
+    match apply_change(alloc, g, step, before) {
+        Ok(done) => {
+            places.set(name, done.after);
+            Ok((done.undo, done.spare))
+        }
+        Err(before) => {
+            places.set(name, before);
+            Err(NoMemory)
+        }
+    }
+}
+
+/// Takes a change back in the place of a name.
+fn restore_place(places: &mut Places, g: Geometry, name: Name, undo: Undo, spare: Spare)
+    requires placed { IsSome (map.get places.old name) }
+    requires sound { IsSound (record { k = g.k; unit = g.unit }) spare (undo_of undo) (joined (map.get places.old name)) }
+    ensures { places.new ≡ map.insert places.old name (restored (record { k = g.k; unit = g.unit }) (undo_of undo) (joined (map.get places.old name))) }
+{
+    let held = places.set(&name, None);
+    let before = taken_back(g, held, undo, spare);
+    places.set(&name, before);
+}
+
+#[cfg(test)]
+mod tests;

@@ -1,0 +1,24 @@
+use Rattle.std.proofs.Common.{ℕ, List, Some, ◌∙◌, sym, ap}
+use Rattle.rig_disk.specs.Disk.{on_told}
+use Rattle.rig_disk.proofs.Areas.{was_told}
+use Rattle.slot_journal.specs.InUse.{open_text}
+use Rattle.slot_journal.proofs.journal.Journal.load.Goals as goal
+
+pub returns-clause-ok : goal.returns-clause-ok
+returns-clause-ok g c text told =
+    let was = was_told (g.R.Rig.reads c.args.rig.now c.args.slot 0) open_text text told in
+    let told_then = c.read_text.ensures.kept.reads ∙ was.told in
+    record {
+      told = ap (on_told open_text) told_then ∙ ap (λ (l : List ℕ). Some l) (sym was.changed);
+      is_text = c.in_ok-gate.ensures.value text told;
+      durable = λ image said now. ap open_text (c.in_ok-gate.ensures.durable was.there told_then image said now) ∙ sym was.changed;
+    }
+
+pub returns-clause-settled : goal.returns-clause-settled
+returns-clause-settled g c text told =
+    let before = ap (on_told open_text) (sym c.read_text.ensures.kept.reads) ∙ told in
+    record {
+      head = c.args.head.now;
+      bodies = c.in_ok-gate.bodies;
+      holds = returns-clause-ok g c text before;
+    }

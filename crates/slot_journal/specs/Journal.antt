@@ -1,0 +1,90 @@
+-- What a contract sees of a journal. Source: this project.
+use Rattle.std.specs.Prelude.{◌≡◌, ◌≢◌, ◌⊎◌, ◌+◌, ◌-◌, ◌^◌, ◌∷◌, [], ℕ, Bool, true, false, List, Option, Some, Result, OnOk, OnErr}
+use Rattle.rig_disk.specs.Disk.{Image}
+use Rattle.slot_journal.specs.InUse.{Areas, text_in_use, told_text}
+use Rattle.slot_journal.specs.Text.{IsText, IsSomeText}
+use Rattle.slot_journal.specs.Writing.{next_gate, IsBeforeOrAfter}
+use Rattle.slot_journal.specs.declared.journal.Journal.{Journal}
+
+abbrev pub slot_of : Journal → ℕ
+slot_of journal = journal.slot
+
+-- the area that its text stands in
+abbrev pub area_of : Journal → ℕ
+area_of journal = journal.area
+
+-- the serial of its text
+abbrev pub serial_of : Journal → ℕ
+serial_of journal = journal.serial
+
+-- the place of the closed gate behind its records
+abbrev pub gate_of : Journal → ℕ
+gate_of journal = journal.gate
+
+-- a call of it has failed
+abbrev pub is_spent : Journal → Bool
+is_spent journal = journal.spent
+
+-- how many bytes its text may still grow by: up to 2 ^ 40 with the closed gate among them
+abbrev pub room_of : Journal → ℕ
+room_of journal = 2 ^ 40 - (gate_of journal + 1)
+
+-- the slot's text in use reads as these records up to the journal's gate, and each image of now has just that text in use
+pub record Holds (reads : ℕ → ℕ → Option (List ℕ)) (images : Image → List ℕ → Type 0) (journal : Journal)
+    (head : List ℕ) (bodies : List (List ℕ)) (text : List ℕ) : Type 0 where
+  pub told : told_text (reads (slot_of journal)) ≡ Some text
+  pub is_text : IsText head bodies (gate_of journal) text
+  pub durable : (image : Image) (said : List ℕ) → images image said → text_in_use (image (slot_of journal)) ≡ text
+
+-- the journal holds some records
+pub record IsSettled (reads : ℕ → ℕ → Option (List ℕ)) (images : Image → List ℕ → Type 0) (journal : Journal)
+    (text : List ℕ) : Type 0 where
+  pub head : List ℕ
+  pub bodies : List (List ℕ)
+  pub holds : Holds reads images journal head bodies text
+
+-- the same, where the rig tells the slot's text in use
+abbrev pub IsSettledWhereTold : (ℕ → ℕ → Option (List ℕ)) → (Image → List ℕ → Type 0) → Journal → Type 0
+IsSettledWhereTold reads images journal =
+    (text : List ℕ) → told_text (reads (slot_of journal)) ≡ Some text → IsSettled reads images journal text
+
+-- a new journal over a slot
+pub record IsFresh (journal : Journal) (slot : ℕ) : Type 0 where
+  pub slot_is : slot_of journal ≡ slot
+  pub area_is : area_of journal ≡ 0
+  pub serial_is : serial_of journal ≡ 0
+  pub unspent : is_spent journal ≡ false
+
+-- after a commit: the closed gate stands behind the new record, or the journal is spent
+pub record IsCommitted {T E : Type 0} (old new : Journal) (body : List ℕ) (result : Result T E) : Type 0 where
+  pub slot_is : slot_of new ≡ slot_of old
+  pub area_is : area_of new ≡ area_of old
+  pub serial_is : serial_of new ≡ serial_of old
+  pub gate_is : OnOk result (gate_of new ≡ next_gate (gate_of old) body)
+  pub unspent : OnOk result (is_spent new ≡ false)
+  pub spent : OnErr result (is_spent new ≡ true)
+  pub same_gate : OnErr result (gate_of new ≡ gate_of old)
+
+-- one of these images with a step in one slot, all other slots as they were, and nothing said
+pub record InSlot (images : Image → List ℕ → Type 0) (slot : ℕ) (step : Areas → Areas → Type 0)
+    (image : Image) (said : List ℕ) : Type 0 where
+  pub source : Image
+  pub was : images source said
+  pub others : (s : ℕ) → s ≢ slot → (a : ℕ) → image s a ≡ source s a
+  pub stepped : step (source slot) (image slot)
+
+-- a commit at each of its instants: the journal's area alone changes, and whichever records the journal held, the
+-- text in use has them, or them and the new one
+pub record Commits (reads : ℕ → ℕ → Option (List ℕ)) (images : Image → List ℕ → Type 0) (journal : Journal)
+    (body : List ℕ) (before after : Areas) : Type 0 where
+  pub others : (a : ℕ) → a ≢ area_of journal → after a ≡ before a
+  pub records : (head : List ℕ) (bodies : List (List ℕ)) (text : List ℕ) → Holds reads images journal head bodies text
+      → IsBeforeOrAfter head bodies body (gate_of journal) (text_in_use after)
+
+-- the making of a journal at each of its instants: one area alone changes, and the slot has in use the text that it
+-- had, no text of the grammar, or the new one
+pub record Makes (reads : ℕ → Option (List ℕ)) (head body : List ℕ) (before after : Areas) : Type 0 where
+  pub others : (a : ℕ) → a ≢ 0 → after a ≡ before a
+  pub texts : (text : List ℕ) → told_text reads ≡ Some text
+      → (text_in_use after ≡ text_in_use before)
+      ⊎ ((IsSomeText (text_in_use after) → ⊥) ⊎ IsText head (body ∷ []) (next_gate 24 body) (text_in_use after))

@@ -1,0 +1,7 @@
+pub mod Header
+pub mod InUse
+pub mod Journal
+pub mod Laws
+pub mod Reading
+pub mod Text
+pub mod Writing

@@ -1,0 +1,69 @@
+//! The bodies of records, in order.
+ghost use Rattle.std.specs.Prelude.{◌≡◌, [], ℕ, List, length, slice_get};
+ghost use Rattle.std.specs.Option.{option_copied};
+
+use ec_words::Bytes;
+use std::alloc::Global;
+use std::marker::Model;
+
+/// The bodies of records, in order. A contract sees the list of their lists of bytes.
+#[derive(Debug, Drop)]
+pub struct Bodies {
+    list: Vec<Bytes>,
+}
+
+impl Model for Bodies {
+    ghost Value = { List (List ℕ) };
+
+    ghost view = { λ b. b.list.items };
+}
+
+impl Bodies {
+    /// No bodies. They take no memory yet.
+    pub fn new(alloc: Global) -> Bodies
+        ensures { result ≡ [] }
+    {
+        Bodies {
+            list: Vec::new(alloc),
+        }
+    }
+
+    /// The bodies of a `Vec`, which is taken over as it is.
+    pub fn of(list: Vec<Bytes>) -> Bodies
+        ensures { result ≡ list.items }
+    {
+        Bodies { list }
+    }
+
+    /// The `Vec` that holds the bodies.
+    pub fn into_vec(self) -> Vec<Bytes>
+        ensures { result.items ≡ self }
+    {
+        self.list
+    }
+
+    /// The bodies.
+    pub fn as_slice(&self) -> &[Bytes]
+        ensures { result.now ≡ self.now }
+    {
+        self.list.as_slice()
+    }
+}
+
+#[cfg(test)]
+mod tests {
+    use super::*;
+    use std::test::Fail;
+
+    #[test]
+    fn bodies_come_back(rt: HostRuntime) -> Result<(), Fail> {
+        let alloc = rt.alloc();
+        assert!(rt; Bodies::new(alloc).as_slice().is_empty());
+        let bodies = Bodies::of(vec![in alloc; Bytes::from_slice(alloc, b"ab")?]?);
+        assert_eq!(rt; bodies.as_slice().len(), 1);
+        let list = bodies.into_vec();
+        assert!(rt; list.len() == 1);
+        assert_eq!(rt; list[0].as_slice(), b"ab".as_slice());
+        Ok(())
+    }
+}

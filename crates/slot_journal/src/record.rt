@@ -1,0 +1,54 @@
+//! A record: an open gate, the length of its body in four bytes, and the body.
+ghost use Rattle.std.specs.Prelude.{◌≡◌, ◌≤◌, ◌+◌, ◌++◌, ◌∷◌, [], length, MatchOption};
+ghost use Rattle.byteorder.specs.Endian.{big_bytes, big_number};
+ghost use Rattle.slot_journal.specs.Header.{open_gate};
+ghost use Rattle.slot_journal.specs.Text.{max_body, IsBadLength, IsBodyLength};
+
+use crate::{MAX_BODY, OPEN_GATE};
+use byteorder::{BigEndian, ByteOrder};
+
+/// The bytes of a record in front of its body.
+pub fn record_prefix(body_len: u32) -> [u8; 5]
+    ensures { result ≡ open_gate ∷ big_bytes 4 body_len }
+{
+    let mut prefix = [OPEN_GATE; 5];
+    BigEndian::write_u32(&mut prefix[1..], body_len);
+    prefix
+}
+
+/// The length that the first four bytes say, where it is one of a body and the body is all there. `rest_len` is the
+/// number of bytes from the length on, those in `rest` included.
+pub fn read_body_len(rest: &[u8], rest_len: u64) -> Option<usize>
+    ensures { MatchOption result (IsBadLength rest.now rest_len) (IsBodyLength rest.now rest_len) }
+{
+    if rest.len() < 4 {
+        return None;
+    }
+    let len = BigEndian::read_u32(rest) as usize;
+    if len < 1 || len > MAX_BODY || rest_len < len as u64 + 4 {
+        return None;
+    }
+    Some(len)
+}
+
+#[cfg(test)]
+mod tests {
+    use super::*;
+
+    // From the format: four bytes, the highest first, from 1 to 2^26, and a body that is there.
+    #[test]
+    fn a_length_is_read_where_it_is_one(rt: HostRuntime) {
+        assert_eq!(rt; record_prefix(0x0102_0304), [0x4f, 1, 2, 3, 4]);
+        let rows: [([u8; 4], u64, Option<usize>); 5] = [
+            ([0, 0, 1, 2], 262, Some(258)),
+            ([0, 0, 1, 2], 261, None),
+            ([0, 0, 0, 0], 100, None),
+            ([4, 0, 0, 0], 1 << 40, Some(1 << 26)),
+            ([4, 0, 0, 1], 1 << 40, None),
+        ];
+        for (bytes, rest_len, len) in rows {
+            assert_eq!(rt; read_body_len(&bytes, rest_len), len, "at {bytes:?}");
+        }
+        assert_eq!(rt; read_body_len(&[0, 0, 1], 100), None);
+    }
+}
