@@ -1,5 +1,6 @@
 pub mod Fields
 pub mod HexText
+pub mod Intervals
 pub mod Laws
 pub mod Masks
 pub mod Names

@@ -11,6 +11,7 @@ mod fault;
 mod fields;
 mod geometry;
 mod hex_text;
+mod interval;
 mod laws;
 mod limits;
 mod mask;
@@ -24,6 +25,7 @@ pub use fault::{NoMemory, WordFault};
 pub use fields::{field, field_count};
 pub use geometry::{Geometry, shard_len};
 pub use hex_text::read_hex;
+pub use interval::{Interval, Intervals};
 pub use laws::{
     fields_are_between_spaces, hex_has_one_reading, hex_is_read_back, hex_text_spells_some_bytes,
 };

@@ -1,0 +1,4 @@
+pub mod Choice
+pub mod Inner
+pub mod Laws
+pub mod States
