@@ -2,6 +2,7 @@ pub mod Changes
 pub mod Fronts
 pub mod Laws
 pub mod Limits
+pub mod Listings
 pub mod Objects
 pub mod Replays
 pub mod Shards

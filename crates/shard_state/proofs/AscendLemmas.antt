@@ -8,7 +8,7 @@ use Rattle.std.proofs.lemmas.Bool.{false≢true, and_parts}
 use Rattle.shard_state.specs.Spots.{Attr}
 use Rattle.shard_state.proofs.SpotLemmas.{by_name, less, lower}
 
-both_true : (b c : Bool) → b ≡ true → c ≡ true → (b && c) ≡ true
+pub both_true : (b c : Bool) → b ≡ true → c ≡ true → (b && c) ≡ true
 both_true true c p q = q
 both_true false c p q = absurd (false≢true p)
 

@@ -12,4 +12,6 @@ pub mod PlaceLemmas
 pub mod SoundLemmas
 pub mod SpotLemmas
 pub mod StateLemmas
+pub mod SweepLemmas
+pub mod TallyLemmas
 pub mod WayLemmas

@@ -1,5 +1,6 @@
 -- The map of a list of entries in order.
-use Rattle.std.proofs.Common.{◌≡◌, ℕ, cond, List, [], ◌∷◌, refl, sym, ap, ◌∙◌, Option, Some, None, is_some, Bor, option_copied}
+use Rattle.std.proofs.Common.{◌≡◌, ℕ, false, cond, List, [], ◌∷◌, refl, sym, ap, ◌∙◌, Option, Some, None, is_some, Bor, option_copied}
+use Rattle.std.proofs.lemmas.Bool.{true≢false}
 use Rattle.std.specs.Ordering.{nat_cmp, is_eq, eq_by_cmp}
 use Rattle.std.specs.Cmp.{eq_by_cmp_equiv}
 use Rattle.std.specs.Cmp.Lexicographic.{slice_cmp, nat_list_cmp_total}
@@ -29,6 +30,20 @@ module _ {X : Type 0} where
       ∙ ap (cond (eq_by_cmp by_name q k) (Some v)) (sym (get-listed q old))
       ∙ sym (map.get-insert nat_list_cmp_total _ k v q))
 
+  pub listed-remove : (old new : List (List ℕ × X)) (k : List ℕ)
+      → ((q : List ℕ) → lookup (is_at (by_name q)) new ≡ cond (is_at (by_name k) q) None (lookup (is_at (by_name q)) old))
+      → map.from_entries {R = by_name} new ≡ map.remove (map.from_entries old) k
+  listed-remove old new k is =
+      map.same_map nat_list_cmp_total (map.slice_cmp-IsAntisymmetric map.nat_cmp-IsAntisymmetric) _ _ (λ q.
+      get-listed q new ∙ is q
+      ∙ ap (λ b. cond b None (lookup (is_at (by_name q)) old)) ((eq_by_cmp_equiv nat_list_cmp_total).symm k q)
+      ∙ ap (cond (eq_by_cmp by_name q k) None) (sym (get-listed q old))
+      ∙ sym (map.get-remove nat_list_cmp_total _ k q))
+
 pub some_copied : {X : Type 0} (o : Option (Bor X)) → is_some o ≡ is_some (option_copied o)
 some_copied None = refl
 some_copied (Some x) = refl
+
+pub none_copied : {X : Type 0} (o : Option (Bor X)) → is_some o ≡ false → option_copied o ≡ None
+none_copied None e = refl
+none_copied (Some x) e = absurd (true≢false e)

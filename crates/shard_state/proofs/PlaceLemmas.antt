@@ -13,7 +13,7 @@ module _ {X : Type 0} where
   joined_cond true x r = refl
   joined_cond false x r = refl
 
-  get-filled : (es : List (List ℕ × Option X)) (q : List ℕ) → map.get (filled es) q ≡ joined (map.find by_name q es)
+  pub get-filled : (es : List (List ℕ × Option X)) (q : List ℕ) → map.get (filled es) q ≡ joined (map.find by_name q es)
   get-filled [] q = map.get-empty by_name q
   get-filled (e ∷ es) q =
       get-put (filled es) e.0 e.1 q ∙ ap (cond (is_name q e.0) e.1) (get-filled es q) ∙ joined_cond (is_name q e.0) e.1 (map.find by_name q es)

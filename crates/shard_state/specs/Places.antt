@@ -1,5 +1,7 @@
 -- A map with places that may be empty, and what lies in them. Source: this project.
-use Rattle.std.specs.Prelude.{◌≡◌, ℕ, List, [], ◌∷◌, Option, Some, None, is_some, IsSome, true}
+use Rattle.std.specs.Prelude.{◌≡◌, ℕ, List, [], ◌∷◌, Option, Some, None, is_some, IsSome, true, false}
+use Rattle.std.specs.Ordering.{nat_cmp, eq_by_cmp}
+use Rattle.std.specs.Cmp.Lexicographic.{slice_cmp}
 use Rattle.std.specs.FinMap as fin
 use Rattle.shard_model.specs.Objects.{Named, put}
 
@@ -21,3 +23,7 @@ pub record HasMade {X : Type 0} (name : List ℕ) (old new : Named (Option X)) :
   pub there : IsSome (fin.get new name)
   pub same : inside new ≡ inside old
   pub stays : (q : List ℕ) → is_some (fin.get old q) ≡ true → is_some (fin.get new q) ≡ true
+
+-- each place stays but that of a name
+abbrev pub IsSwept : {X : Type 0} → List ℕ → Named (Option X) → Named (Option X) → Type 0
+IsSwept name old new = (q : List ℕ) → eq_by_cmp (slice_cmp nat_cmp) q name ≡ false → is_some (fin.get old q) ≡ true → is_some (fin.get new q) ≡ true

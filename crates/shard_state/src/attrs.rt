@@ -1,10 +1,13 @@
 //! The attributes of an object.
-ghost use Rattle.std.specs.Prelude.{◌≡◌, ◌⊎◌, ◌≤◌, ◌<◌, true, length, slice_get, IsSome, IfOk, OnOk, OnErr};
+ghost use Rattle.std.specs.Prelude.{◌≡◌, ◌⊎◌, ◌≤◌, ◌<◌, true, length, min, slice_get, IsSome, IfOk, OnOk, OnErr};
 ghost use Rattle.std.specs.Option.{option_copied};
 ghost use Rattle.std.specs.Ordering.{nat_cmp};
 ghost use Rattle.std.specs.Cmp.Lexicographic.{slice_cmp};
 ghost use Rattle.std.specs.FinMap as map;
+ghost use Rattle.std.specs.List.{sum_by};
+ghost use Rattle.shard_model.specs.Listings.{attr_usage};
 ghost use Rattle.shard_state.specs.Spots.{IsSpot, without};
+ghost use Rattle.shard_state.specs.Tallies.{most};
 
 use crate::pairs::Pairs;
 use ec_words::{Bytes, Name, NoMemory};
@@ -82,6 +85,13 @@ impl Attrs {
         }
     }
 
+    /// The bytes of all names and values, or `u64::MAX` where there are more.
+    pub(crate) fn usage(&self) -> u64
+        ensures { result ≡ min (sum_by attr_usage (map.entries self.now)) most }
+    {
+        pairs_usage(&self.list)
+    }
+
     /// The attributes of a list whose names ascend.
     pub(crate) fn from_pairs(alloc: Global, pairs: &Pairs) -> Result<Attrs, NoMemory>
         requires { map.is_sorted (slice_cmp nat_cmp) pairs.now ≡ true }
@@ -123,6 +133,19 @@ impl Attrs {
     {
         give_pair(&mut self.list, spare, name, value);
     }
+}
+
+/// The bytes of names and values, or `u64::MAX` where there are more.
+fn pairs_usage(list: &[(Name, Bytes)]) -> u64
+    ensures { result ≡ min (sum_by attr_usage list.now) most }
+{
+    let mut sum: u64 = 0;
+    for i in 0..list.len() {
+        let pair = &list[i];
+        let len = pair.0.as_slice().len() + pair.1.as_slice().len();
+        sum = sum.saturating_add(len as u64);
+    }
+    sum
 }
 
 fn copy_pairs(alloc: Global, list: &[(Name, Bytes)]) -> Result<Vec<(Name, Bytes)>, NoMemory>

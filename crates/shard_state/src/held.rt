@@ -1,4 +1,8 @@
 //! What a shard holds of an object.
+ghost use Rattle.std.specs.Prelude.{◌≡◌, min};
+ghost use Rattle.shard_model.specs.Listings.{object_usage};
+ghost use Rattle.shard_state.specs.Tallies.{most};
+
 use crate::attrs::Attrs;
 use ec_words::Bytes;
 use std::marker::Model;
@@ -19,4 +23,13 @@ impl Model for Held {
     ghost coded = { shard_object_code };
 
     ghost view = { λ h. record { bytes = h.bytes; size = h.size; attrs = h.attrs } };
+}
+
+impl Held {
+    /// The size, and the bytes of the attributes' names and values; or `u64::MAX` where that is more.
+    pub(crate) fn usage(&self) -> u64
+        ensures { result ≡ min (object_usage self.now) most }
+    {
+        self.attrs.usage().saturating_add(u64::from(self.size))
+    }
 }

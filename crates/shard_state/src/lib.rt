@@ -21,12 +21,14 @@ mod kinds;
 mod limits;
 mod log;
 mod pairs;
+mod place_steps;
 mod places;
 mod reading;
 mod record;
 mod state;
 mod step;
 mod steps;
+mod tally;
 
 pub use attrs::Attrs;
 pub use decoding::decode_steps;

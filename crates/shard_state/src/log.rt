@@ -1,5 +1,5 @@
 //! The log as a list of records.
-ghost use Rattle.std.specs.Prelude.{◌≡◌, ◌≤◌, ℕ, length, map, take, drop};
+ghost use Rattle.std.specs.Prelude.{◌≡◌, ◌≤◌, bytes_eq, length, map, take, drop};
 ghost use Rattle.std.specs.List.{list_any};
 ghost use Rattle.ec_model.specs.Versions.{is_same};
 ghost use Rattle.shard_model.specs.Fronts.{up_to, after as later};
@@ -9,7 +9,7 @@ ghost use Rattle.shard_state.specs.Sound.{settled_in};
 
 use crate::entry::Undo;
 use crate::record::Record;
-use ec_words::Version;
+use ec_words::{Name, Version};
 
 /// Whether an entry has this version.
 pub(crate) fn is_logged(log: &Vec<Record>, version: &Version) -> bool
@@ -56,12 +56,24 @@ fn settle_one(record: &mut Record, version: &Version)
     }
 }
 
-/// Takes the entries up to a version off the front.
-pub(crate) fn trim_to(log: &mut Vec<Record>, version: &Version)
-    ensures rest { log_of log.new.items ≡ later version_of version.now (log_of log.old.items) }
-    ensures end { (cut : ℕ) × (log.new.items ≡ drop cut log.old.items) }
+/// Whether one of the entries from an index on has this name.
+pub(crate) fn is_named(log: &Vec<Record>, from: usize, name: &Name) -> bool
+    ensures { result ≡ list_any (λ r. bytes_eq r.logged.name name.now) (map recorded (drop from log.now.items)) }
 {
-    let cut = front_len(log, version);
+    for i in from..log.len() {
+        let record = &log[i];
+        if record.entry.what.name == *name {
+            return true;
+        }
+    }
+    false
+}
+
+/// Takes entries off the front.
+pub(crate) fn take_off(log: &mut Vec<Record>, cut: usize)
+    requires { cut ≤ length log.old.items }
+    ensures { log.new.items ≡ drop cut log.old.items }
+{
     log.rotate_left(cut);
     log.truncate(log.len() - cut);
 }

@@ -1,21 +1,27 @@
 //! Objects by name, with places that may be empty.
 //!
 //! An object that is removed leaves its place empty, so that putting it back takes no memory.
-ghost use Rattle.std.specs.Prelude.{◌≡◌, OnOk, OnErr, None, is_some, IsSome};
+ghost use Rattle.std.specs.Prelude.{◌≡◌, OnOk, OnErr, None, is_some, IsSome, min};
 ghost use Rattle.std.specs.Option.{option_copied};
 ghost use Rattle.std.specs.FinMap as map;
-ghost use Rattle.shard_state.specs.Places.{joined};
+ghost use Rattle.std.specs.Range.Bound.{bound_map};
+ghost use Rattle.shard_model.specs.Listings.{next_name, usage};
+ghost use Rattle.shard_state.specs.Places.{joined, inside, IsSwept};
+ghost use Rattle.shard_state.specs.Tallies.{most, start_after};
 
 use crate::held::Held;
+use crate::tally::Tally;
 use ec_words::{Name, NoMemory};
 use std::alloc::Global;
 use std::collections::BTreeMap;
 use std::marker::Model;
+use std::ops::Bound;
 
 /// Places by name. A contract sees the map from names to what lies in them, if anything.
 #[derive(Drop)]
 pub(crate) struct Places {
     slots: BTreeMap<Name, Option<Held>>,
+    tally: Tally,
 }
 
 impl Model for Places {
@@ -31,6 +37,10 @@ impl Model for Places {
     ghost coded = { map.code (coded_list coded_ℕ) (coded_option shard_object_code) };
 
     ghost view = { λ p. map.from_entries p.slots.entries };
+
+    ghost use Rattle.shard_state.specs.Tallies.{IsTallied};
+
+    ghost invariant = { λ p. IsTallied p.slots.entries p.tally.count p.tally.used };
 }
 
 impl Places {
@@ -40,6 +50,7 @@ impl Places {
     {
         Places {
             slots: BTreeMap::new(alloc),
+            tally: Tally::none(),
         }
     }
 
@@ -76,9 +87,66 @@ impl Places {
         ensures value { self.new ≡ map.insert self.old name.now value }
         ensures before { result ≡ joined (map.get self.old name.now) }
     {
+        // There are fewer than 2^63 places, so both sums of the tally fit.
+        let _places = self.slots.len();
+        self.tally.add(&value);
         match self.slots.get_mut(name) {
             None => unreachable!(),
-            Some(place) => std::mem::replace(place, value),
+            Some(place) => {
+                let before = std::mem::replace(place, value);
+                self.tally.take(&before);
+                before
+            }
         }
+    }
+
+    /// Takes the place of a name away where it is empty.
+    pub fn sweep(&mut self, name: &Name)
+        ensures same { inside self.new ≡ inside self.old }
+        ensures others { IsSwept name.now self.old self.new }
+    {
+        if self.has(name) && self.get(name).is_none() {
+            self.slots.remove(name);
+        }
+    }
+
+    /// The number of places that are not empty.
+    pub fn count(&self) -> usize
+        ensures { result ≡ map.len (inside self.now) }
+    {
+        self.tally.count
+    }
+
+    /// What lies in the places takes this much, or `u64::MAX` where that is more.
+    pub fn usage(&self) -> u64
+        ensures { result ≡ min (usage (inside self.now)) most }
+    {
+        if self.tally.used <= u128::from(u64::MAX) {
+            self.tally.used as u64
+        } else {
+            u64::MAX
+        }
+    }
+
+    /// The least name whose place is not empty, or the least such name after another.
+    pub fn next_name(&self, after: Option<&Name>) -> Option<&Name>
+        ensures { option_copied result ≡ next_name (inside self.now) (option_copied after.entry) }
+    {
+        for (name, place) in self.slots.range((start_after(after), Bound::Unbounded)) {
+            if place.is_some() {
+                return Some(name);
+            }
+        }
+        None
+    }
+}
+
+/// Where the names after one begin, or all names.
+fn start_after(after: Option<&Name>) -> Bound<&Name>
+    ensures { bound_map (λ x. x.now) result ≡ start_after (option_copied after.entry) }
+{
+    match after {
+        None => Bound::Unbounded,
+        Some(name) => Bound::Excluded(name),
     }
 }

@@ -1,5 +1,5 @@
 //! The state of a shard.
-ghost use Rattle.std.specs.Prelude.{◌≡◌, ◌≤◌, ◌<◌, ◌+◌, get_or, IfSome, IsNone, ◌*◌, ◌↔◌, ◌&&◌, ◌==◌, nat_lt, nat_le, List, ℕ, Err, false, OnOk, OnErr, IfOk, IfErr, IsSome, None, true, length};
+ghost use Rattle.std.specs.Prelude.{◌≡◌, ◌≤◌, ◌<◌, ◌+◌, ◌-◌, ◌^◌, min, get_or, IfSome, IsNone, ◌*◌, ◌↔◌, ◌&&◌, ◌==◌, nat_lt, nat_le, List, ℕ, Err, false, OnOk, OnErr, IfOk, IfErr, IsSome, None, true, length};
 ghost use Rattle.std.specs.Option.{option_copied};
 ghost use Rattle.std.specs.Result.{IsErr};
 ghost use Rattle.std.specs.FinMap as map;
@@ -10,6 +10,7 @@ ghost use Rattle.shard_state.specs.Sound.{IsSound};
 ghost use Rattle.shard_model.specs.Steps.{Enter, Rule, Copy, Back, Started, Firm, Trim, Partial, Drop as DropName, Clear, Reset, Put};
 ghost use Rattle.shard_model.specs.States.{Logged as Meant, holds, fits, follows, is_known, brought};
 ghost use Rattle.shard_model.specs.Limits.{seq_limit};
+ghost use Rattle.shard_model.specs.Listings.{next_name, usage};
 ghost use Rattle.std.specs.Ordering.{nat_cmp};
 ghost use Rattle.std.specs.Cmp.Lexicographic.{slice_cmp};
 ghost use Rattle.shard_state.specs.Doing.{takes_none, fresh_state};
@@ -20,15 +21,15 @@ ghost use Rattle.shard_state.specs.EntryMeanings.{undo_of, kind_of, logged_of};
 ghost use Rattle.shard_state.specs.StepMeanings.{step_of};
 ghost use Rattle.shard_state.specs.Ways.{UndoesNewest, GivesThePast};
 
-use crate::attrs::{Attrs, Spare};
-use crate::change::{apply_change, taken_back};
+use crate::attrs::Attrs;
 use crate::entry::{Entry, Kind, Logged, Undo};
 use crate::fault::{StepFault, UndoFault};
 use crate::fit::{fits_put, fits_remove_attr, fits_replace, fits_set_attr, fits_write};
 use crate::held::Held;
 use crate::limits::SEQ_LIMIT;
-use crate::log::{front_len, is_logged, settle_to, trim_to};
+use crate::log::{front_len, is_logged, settle_to, take_off};
 use crate::pairs::Pairs;
+use crate::place_steps::{change_place, empty_place, make_place, restore_place, sweep_front};
 use crate::places::Places;
 use crate::record::Record;
 use crate::step::Step;
@@ -96,6 +97,28 @@ impl ShardState {
         ensures { option_copied result ≡ map.get self.now.state.objects name.now }
     {
         self.places.get(name)
+    }
+
+    /// The least name of an object, or the least above `after`. `None` exactly where there is none.
+    pub fn next_name(&self, after: Option<&Name>) -> Option<&Name>
+        ensures { option_copied result ≡ next_name self.now.state.objects (option_copied after.entry) }
+    {
+        self.places.next_name(after)
+    }
+
+    /// The number of objects.
+    pub fn count(&self) -> usize
+        ensures { result ≡ map.len self.now.state.objects }
+    {
+        self.places.count()
+    }
+
+    /// The sum of the objects' sizes and of the lengths of all their attributes' names and values, or `u64::MAX` where it is
+    /// greater.
+    pub fn usage(&self) -> u64
+        ensures { result ≡ min (usage self.now.state.objects) (2 ^ 64 - 1) }
+    {
+        self.places.usage()
     }
 
     /// The version of the last entry.
@@ -415,7 +438,9 @@ impl ShardState {
         requires { fits self.old.geometry self.old.state (Rule (Trim version.now)) ≡ true }
         ensures { self.new ≡ stepped self.old (Rule (Trim version.now)) }
     {
-        trim_to(&mut self.log, version);
+        let cut = front_len(&self.log, version);
+        sweep_front(&mut self.places, &self.log, cut);
+        take_off(&mut self.log, cut);
         self.tail = *version;
     }
 
@@ -531,68 +556,7 @@ fn brought(alloc: Global, size: u32, bytes: &Bytes, attrs: &Pairs) -> Result<Hel
     Ok(Held { bytes, size, attrs })
 }
 
-/// Nothing lies in the place of a name, if it has one.
-fn empty_place(places: &mut Places, name: &Name)
-    ensures { inside places.new ≡ put (inside places.old) name.now None }
-{
-    if places.has(name) {
-        places.set(name, None);
-    }
-}
-
-/// Makes a place for a name where there is none; what lies in the others stays.
-fn make_place(places: &mut Places, alloc: Global, name: &Name) -> Result<(), NoMemory>
-    ensures made { OnOk result (HasMade name.now places.old places.new) }
-    ensures unchanged { OnErr result (places.new ≡ places.old) }
-{
-    if !places.has(name) {
-        let copy = name.copy(alloc)?;
-        places.make(copy)?;
-    }
-    Ok(())
-}
-
-/// Does an entry's step to what lies in the place of its name.
-fn change_place(
-    places: &mut Places,
-    alloc: Global,
-    g: Geometry,
-    step: &Step,
-    name: &Name,
-) -> Result<(Undo, Spare), NoMemory>
-    requires placed { IsSome (map.get places.old name.now) }
-    requires entry { is_entry (step_of step.now) ≡ true }
-    requires held { MayBeHeld (record { k = g.k; unit = g.unit }) (joined (map.get places.old name.now)) }
-    requires fits { fits_change (record { k = g.k; unit = g.unit }) (change_in (step_of step.now)) (joined (map.get places.old name.now)) ≡ true }
-    ensures ok { OnOk result (places.new ≡ map.insert places.old name.now
-        (changed (record { k = g.k; unit = g.unit }) (change_in (step_of step.now)) (joined (map.get places.old name.now)))) }
-    ensures undo { IfOk result (λ done. (undo_of done.0 ≡ undo_of_change (change_in (step_of step.now)) (joined (map.get places.old name.now)))
-        × HasRoomFor (change_in (step_of step.now)) done.1) }
-    ensures unchanged { OnErr result (places.new ≡ places.old) }
-{
-    let before = places.set(name, None);
-    match apply_change(alloc, g, step, before) {
-        Ok(done) => {
-            places.set(name, done.after);
-            Ok((done.undo, done.spare))
-        }
-        Err(before) => {
-            places.set(name, before);
-            Err(NoMemory)
-        }
-    }
-}
-
-/// Takes a change back in the place of a name.
-fn restore_place(places: &mut Places, g: Geometry, name: Name, undo: Undo, spare: Spare)
-    requires placed { IsSome (map.get places.old name) }
-    requires sound { IsSound (record { k = g.k; unit = g.unit }) spare (undo_of undo) (joined (map.get places.old name)) }
-    ensures { places.new ≡ map.insert places.old name (restored (record { k = g.k; unit = g.unit }) (undo_of undo) (joined (map.get places.old name))) }
-{
-    let held = places.set(&name, None);
-    let before = taken_back(g, held, undo, spare);
-    places.set(&name, before);
-}
-
+#[cfg(test)]
+mod random_steps;
 #[cfg(test)]
 mod tests;

@@ -5,7 +5,7 @@ use Rattle.shard_model.specs.Changes.{changed}
 use Rattle.shard_state.specs.Doing.{change_in}
 use Rattle.shard_state.specs.StepMeanings.{step_of}
 use Rattle.shard_state.proofs.PlaceLemmas.{place_of, insert_twice, insert_own}
-use Rattle.shard_state.proofs.state.change_place.Goals as goal
+use Rattle.shard_state.proofs.place_steps.change_place.Goals as goal
 
 pub set-requires : goal.set-requires
 set-requires c = subst (λ m. IsSome (map.get m c.args.name.now)) (sym c.set-before.ensures.value) (place_of c.args.places.now c.args.name.now None)

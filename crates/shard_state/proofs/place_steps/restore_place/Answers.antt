@@ -4,7 +4,7 @@ use Rattle.shard_model.specs.Objects.{Geometry}
 use Rattle.shard_model.specs.Changes.{restored}
 use Rattle.shard_state.specs.EntryMeanings.{undo_of}
 use Rattle.shard_state.proofs.PlaceLemmas.{place_of, insert_twice}
-use Rattle.shard_state.proofs.state.restore_place.Goals as goal
+use Rattle.shard_state.proofs.place_steps.restore_place.Goals as goal
 
 pub set-requires : goal.set-requires
 set-requires c = subst (λ m. IsSome (map.get m c.args.name)) (sym c.set-held.ensures.value) (place_of c.args.places.now c.args.name None)

@@ -2,7 +2,7 @@ use Rattle.std.proofs.Common.{sym, subst, ◌∙◌, None}
 use Rattle.std.specs.FinMap as map
 use Rattle.shard_state.specs.Places.{HasMade}
 use Rattle.shard_state.proofs.PlaceLemmas.{made_place, none_of}
-use Rattle.shard_state.proofs.state.make_place.Goals as goal
+use Rattle.shard_state.proofs.place_steps.make_place.Goals as goal
 
 pub returns-in_ok-make-clause-made : goal.returns-in_ok-make-clause-made
 returns-in_ok-make-clause-made c =
