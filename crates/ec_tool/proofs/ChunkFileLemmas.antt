@@ -1,11 +1,12 @@
 -- Files of chunks, one after another.
-use Rattle.std.proofs.Common.{◌≡◌, ◌<◌, ◌+◌, ℕ, List, [], ◌∷◌, ◌++◌, take, length, get_or, Option, Some, None, refl, ap, sym, subst, ◌∙◌, arith}
+use Rattle.std.specs.Result.{IsErrAnd}
+use Rattle.std.proofs.Common.{Result, Ok, Err, ◌≡◌, ◌<◌, ◌+◌, ℕ, List, [], ◌∷◌, ◌++◌, take, length, get_or, Option, Some, None, refl, ap, sym, subst, ◌∙◌, arith}
 use Rattle.std.specs.FinMap as map
 use Rattle.std.proofs.lemmas.List.{take_more}
 use Rattle.ec_model.specs.Codes.{CodeRows, IsPositionList}
 use Rattle.ec_tool.specs.Chunks.{chunk_name, Written, after, AreChunkFiles}
 use Rattle.ec_tool.specs.Accesses.{Told}
-use Rattle.ec_tool.specs.Encoding.{HasChunk, HasChunks, HasChunksBut, StopsOne, StopsChunks}
+use Rattle.ec_tool.specs.Encoding.{HasChunk, HasChunks, HasChunksBut, StopsOne, WritesChunks, StopsChunks}
 use Rattle.ec_tool.specs.Files.{FileMap, KeepsOthers}
 use Rattle.ec_tool.specs.declared.stop.Stop.{Stop}
 use Rattle.ec_tool.specs.declared.stop.Stop.TheVariants.{Usage, Profile, Missing, Failed, NotDecided, Lengths, TooLong, NoMemory}
@@ -75,3 +76,9 @@ stopped_at code unit name bytes wanted i before mid now (Missing f) lt so_far on
 stopped_at code unit name bytes wanted i before mid now NotDecided lt so_far one = absurd one
 stopped_at code unit name bytes wanted i before mid now Lengths lt so_far one = absurd one
 stopped_at code unit name bytes wanted i before mid now (TooLong f) lt so_far one = absurd one
+
+-- what is answered with a reason to stop writing
+pub stopped_writing : {T : Type 0} → (code : CodeRows) (unit : ℕ) (name bytes wanted : List ℕ) (before now : Option FileMap) (answer : Result T Stop) (stop : Stop)
+    → IsErrAnd answer (λ s. s ≡ stop) → StopsChunks code unit name bytes wanted before now stop → WritesChunks code unit name bytes wanted before now answer
+stopped_writing {T} code unit name bytes wanted before now (Ok done) stop is stops = absurd is
+stopped_writing {T} code unit name bytes wanted before now (Err s) stop is stops = subst (λ (x : Stop). StopsChunks code unit name bytes wanted before now x) (sym is) stops

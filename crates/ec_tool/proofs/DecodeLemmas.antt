@@ -14,7 +14,7 @@ use Rattle.ec_tool.specs.Chunks.{AreBelow, DecideTheData, IsReadPlan, AreReadabl
 use Rattle.ec_tool.specs.Decoding.{IsAmong, HaveChunks, AreFetched, Fetches, StopsReading, AreWhole, IsFileOfChunks, GivesFile}
 use Rattle.ec_tool.specs.Files.{FileMap, KeepsOthers, max_file}
 use Rattle.ec_tool.specs.Outcomes.{DecodePart, DecodeEnds}
-use Rattle.ec_tool.specs.Runs.{Decodes, DecodesFiles, WhereTold}
+use Rattle.ec_tool.specs.Runs.{Decodes, DecodeAnswers, DecodesFiles, WhereTold}
 use Rattle.ec_tool.specs.Stops.{status_of, line_of, status_after, line_after}
 use Rattle.ec_tool.specs.Texts.{not_decided_line, missing_line, too_long_line, lengths_line}
 use Rattle.ec_tool.specs.Words.{Job}
@@ -38,6 +38,7 @@ decode_outside code job before was stop (inr (e, never)) =
         only_outside = λ _. never;
         not_decided = λ below. absurd (never below);
         only_not_decided = λ six. absurd (omega arith);
+        answers = λ below. absurd (never below);
         files = λ below. absurd (never below);
       },
       refl,
@@ -51,6 +52,7 @@ decode_undecided code job before was below never = inl (
     only_outside = λ two. absurd (omega arith);
     not_decided = λ _ _. (refl, refl, refl);
     only_not_decided = λ _. never;
+    answers = λ _ decide. absurd (never decide);
     files = λ _ decide. absurd (never decide);
   },
   refl,
@@ -58,12 +60,14 @@ decode_undecided code job before was below never = inl (
 
 -- decoding that came to its files
 by_files : (code : CodeRows) (job : Job) (before now : Option FileMap) (status : ℕ) (line : List ℕ) → AreBelow code.n job.wanted → DecideTheData code job.wanted
-    → (status ≡ 2 → ⊥) → (status ≡ 6 → ⊥) → WhereTold before (DecodesFiles code job status line now) → Decodes code job before status line now
-by_files code job before now status line below decide not_2 not_6 files = record {
+    → (status ≡ 2 → ⊥) → (status ≡ 6 → ⊥) → DecodeAnswers job status line → WhereTold before (DecodesFiles code job status line now)
+    → Decodes code job before status line now
+by_files code job before now status line below decide not_2 not_6 answers files = record {
   outside = λ out. absurd (out below);
   only_outside = λ two. absurd (not_2 two);
   not_decided = λ _ never. absurd (never decide);
   only_not_decided = λ six. absurd (not_6 six);
+  answers = λ _ _. answers;
   files = λ _ _. files;
 }
 
@@ -135,13 +139,21 @@ long_files code job files i shown lt named before long = record {
   not_missing : map.get files (chunk_name job.name (get_or job.wanted i 0)) ≡ None → ⊥
   not_missing none = subst (λ (x : Option (List ℕ)). IsSomeAnd x (λ b. max_file < length b)) none long
 
+missing_chunks : (job : Job) (shown : List ℕ) (i : ℕ) → i < length job.wanted → shown ≡ chunk_name job.name (get_or job.wanted i 0)
+    → DecodeAnswers job 4 (missing_line shown)
+missing_chunks job shown i lt named = inr (inl (shown, (i, (lt, named)), (refl, refl)))
+
+long_chunks : (job : Job) (shown : List ℕ) (i : ℕ) → i < length job.wanted → shown ≡ chunk_name job.name (get_or job.wanted i 0)
+    → DecodeAnswers job 8 (too_long_line shown)
+long_chunks job shown i lt named = inr (inr (inr (shown, inr (i, (lt, named)), (refl, refl))))
+
 pub decode_unread : (code : CodeRows) (job : Job) (before : Option FileMap) (was is : ℕ) (stop : Stop) → AreBelow code.n job.wanted → DecideTheData code job.wanted
     → StopsReading before job.name job.wanted stop → (status_of stop ≡ 5 → Rose was is) → (status_of stop ≢ 5 → is ≡ was)
     → DecodeEnds code job (status_of stop) (line_of stop) before before was is
 decode_unread code job None was is (Missing shown) below decide (i, lt, at) failed quiet =
-    inl (by_files code job None None 4 _ below decide (λ e. omega arith) (λ e. omega arith) tt, quiet (λ e. omega arith))
+    inl (by_files code job None None 4 _ below decide (λ e. omega arith) (λ e. omega arith) (missing_chunks job _ i lt at) tt, quiet (λ e. omega arith))
 decode_unread code job None was is (TooLong shown) below decide (i, lt, at) failed quiet =
-    inl (by_files code job None None 8 _ below decide (λ e. omega arith) (λ e. omega arith) tt, quiet (λ e. omega arith))
+    inl (by_files code job None None 8 _ below decide (λ e. omega arith) (λ e. omega arith) (long_chunks job _ i lt at) tt, quiet (λ e. omega arith))
 decode_unread code job None was is (Failed shown) below decide (i, lt, at) failed quiet = inr (inl ((_, inr (i, (lt, at)), refl, refl, failed refl), nothing_changed job None))
 decode_unread code job None was is NoMemory below decide stops failed quiet = inr (inr ((refl, refl), quiet (λ e. omega arith), refl))
 decode_unread code job None was is Usage below decide (i, lt, at) failed quiet = absurd at
@@ -149,9 +161,9 @@ decode_unread code job None was is (Profile f) below decide (i, lt, at) failed q
 decode_unread code job None was is NotDecided below decide (i, lt, at) failed quiet = absurd at
 decode_unread code job None was is Lengths below decide (i, lt, at) failed quiet = absurd at
 decode_unread code job (Some files) was is (Missing shown) below decide (i, lt, at) failed quiet =
-    inl (by_files code job (Some files) (Some files) 4 _ below decide (λ e. omega arith) (λ e. omega arith) (missing_files code job files i _ lt at.0 at.1 at.2), quiet (λ e. omega arith))
+    inl (by_files code job (Some files) (Some files) 4 _ below decide (λ e. omega arith) (λ e. omega arith) (missing_chunks job _ i lt at.0) (missing_files code job files i _ lt at.0 at.1 at.2), quiet (λ e. omega arith))
 decode_unread code job (Some files) was is (TooLong shown) below decide (i, lt, at) failed quiet =
-    inl (by_files code job (Some files) (Some files) 8 _ below decide (λ e. omega arith) (λ e. omega arith) (long_files code job files i _ lt at.0 at.1 at.2), quiet (λ e. omega arith))
+    inl (by_files code job (Some files) (Some files) 8 _ below decide (λ e. omega arith) (λ e. omega arith) (long_chunks job _ i lt at.0) (long_files code job files i _ lt at.0 at.1 at.2), quiet (λ e. omega arith))
 decode_unread code job (Some files) was is (Failed shown) below decide (i, lt, at) failed quiet =
     inr (inl ((_, inr (i, (lt, at)), refl, refl, failed refl), nothing_changed job (Some files)))
 decode_unread code job (Some files) was is NoMemory below decide stops failed quiet = inr (inr ((refl, refl), quiet (λ e. omega arith), refl))
@@ -255,9 +267,9 @@ decode_unjoined code job before was is chunks long set stop result below decide 
         (λ _ few. absurd (omega (arith, few, much)))
 
     by_stop : (s : Stop) → GivesFile code job.unit job.name long set chunks (Err s) → DecodeEnds code job (status_of s) (line_of s) before before was is
-    by_stop Lengths never = inl (by_files code job before before 7 _ below decide (λ e. omega arith) (λ e. omega arith) (lengths_told before has never), quiet)
+    by_stop Lengths never = inl (by_files code job before before 7 _ below decide (λ e. omega arith) (λ e. omega arith) (inr (inr (inl (refl, refl)))) (lengths_told before has never), quiet)
     by_stop (TooLong shown) so =
-        inl (by_files code job before before 8 _ below decide (λ e. omega arith) (λ e. omega arith) (long_told before _ has so.0 so.1 so.2), quiet)
+        inl (by_files code job before before 8 _ below decide (λ e. omega arith) (λ e. omega arith) (inr (inr (inr (_, inl so.2, (refl, refl))))) (long_told before _ has so.0 so.1 so.2), quiet)
     by_stop NoMemory so = inr (inr ((refl, refl), quiet, refl))
     by_stop Usage so = absurd so
     by_stop (Profile f) so = absurd so
@@ -309,7 +321,7 @@ decode_done {T} code job before now was is chunks long set found given result be
 
     by_result : (r : Result T Stop) → WritesOrStops before now job.name found r → (status_after r ≡ 5 → Rose was is) → (status_after r ≢ 5 → is ≡ was)
         → DecodeEnds code job (status_after r) (line_after r) before now was is
-    by_result (Ok done) w f q = inl (by_files code job before now 0 [] below decide (λ e. omega arith) (λ e. omega arith) (told_files before now has w), q (λ e. omega arith))
+    by_result (Ok done) w f q = inl (by_files code job before now 0 [] below decide (λ e. omega arith) (λ e. omega arith) (inl (refl, refl)) (told_files before now has w), q (λ e. omega arith))
     by_result (Err s) w f q = by_stop s w f
 
 -- what is answered with a reason to stop comes to it

@@ -1,16 +1,15 @@
 -- What encoding comes to, by where it stops.
-use Rattle.std.proofs.Common.{◌≡◌, ◌≢◌, ◌<◌, ◌≤◌, ◌⊎◌, ℕ, List, [], Option, Some, None, Result, Ok, Err, take, get_or, refl, ap, sym, subst, ◌∙◌, arith, inl, inr, length}
+use Rattle.std.proofs.Common.{◌≡◌, ◌≢◌, ◌⊎◌, ℕ, List, [], Option, Some, None, Result, Ok, Err, refl, ap, sym, subst, ◌∙◌, arith, inl, inr, length}
 use Rattle.std.specs.FinMap as map
 use Rattle.rig_disk.specs.Faults.{Rose}
 use Rattle.ec_model.specs.Codes.{CodeRows}
 use Rattle.ec_tool.specs.Accesses.{ReadsOrStops, Told}
-use Rattle.ec_tool.specs.Chunks.{AreBelow, AreChunkFiles, chunk_name}
-use Rattle.ec_tool.specs.Encoding.{HasChunksBut, HasChunks, WritesChunks}
-use Rattle.ec_tool.specs.Files.{FileMap, KeepsOthers, max_file}
+use Rattle.ec_tool.specs.Chunks.{AreBelow, AreChunkFiles}
+use Rattle.ec_tool.specs.Encoding.{HasChunks, WritesChunks}
+use Rattle.ec_tool.specs.Files.{FileMap}
 use Rattle.ec_tool.specs.Outcomes.{EncodePart, EncodeEnds}
-use Rattle.ec_tool.specs.Runs.{Encodes, EncodesFiles, EncodesInPart, WhereTold}
+use Rattle.ec_tool.specs.Runs.{EncodesFiles, WhereTold}
 use Rattle.ec_tool.specs.Stops.{status_of, line_of, status_after, line_after}
-use Rattle.ec_tool.specs.Texts.{usage_line}
 use Rattle.ec_tool.specs.Words.{Job}
 use Rattle.ec_tool.specs.declared.stop.Stop.{Stop}
 use Rattle.ec_tool.specs.declared.stop.Stop.TheVariants.{Usage, Profile, Missing, Failed, NotDecided, Lengths, TooLong, NoMemory}
@@ -30,7 +29,7 @@ pub encode_outside : (code : CodeRows) (job : Job) (before : Option FileMap) (wa
 encode_outside code job before was stop (inl e) = subst (λ (s : Stop). EncodeEnds code job (status_of s) (line_of s) before before was was) (sym e) (encode_out code job before was)
 encode_outside code job before was stop (inr (e, never)) =
     subst (λ (s : Stop). EncodeEnds code job (status_of s) (line_of s) before before was was) (sym e)
-    (inl (record { outside = λ _. (refl, refl, refl); only_outside = λ _. never; files = λ below. absurd (never below) }, refl))
+    (inl (record { outside = λ _. (refl, refl, refl); only_outside = λ _. never; answers = λ below. absurd (never below); files = λ below. absurd (never below) }, refl))
 
 read_told : (before : Option FileMap) (old : FileMap) (name bytes : List ℕ) → before ≡ Some old → ReadsOrStops before name (Ok bytes) → map.get old name ≡ Some bytes
 read_told before old name bytes told reads = read (subst (λ (b : Option FileMap). ReadsOrStops b name (Ok bytes)) told reads) where
@@ -62,7 +61,12 @@ pub encode_done : {T : Type 0} → (code : CodeRows) (job : Job) (before now : O
     → EncodeEnds code job (status_after result) (line_after result) before now was is
 encode_done {T} code job before now was is bytes (Ok done) below reads writes failed quiet =
     inl (
-      record { outside = λ never. absurd (never below); only_outside = λ e. absurd (omega arith); files = λ _. files_done code job before now bytes reads writes },
+      record {
+        outside = λ never. absurd (never below);
+        only_outside = λ e. absurd (omega arith);
+        answers = λ _. inl (refl, refl);
+        files = λ _. files_done code job before now bytes reads writes;
+      },
       quiet (λ e. omega arith),
     )
 encode_done {T} code job before now was is bytes (Err (Failed shown)) below reads writes failed quiet =

@@ -1,6 +1,8 @@
 -- Files of chunks, read one after another.
-use Rattle.std.proofs.Common.{◌≡◌, ◌<◌, ◌≤◌, ◌+◌, ◌↔◌, ℕ, List, [], take, length, get_or, Option, Some, None, IsSome, Ok, Err, ap, sym, subst, ◌∙◌, arith, inl, inr}
+use Rattle.std.proofs.Common.{◌≡◌, ◌<◌, ◌≤◌, ◌+◌, ◌↔◌, ℕ, List, [], take, length, get_or, Option, Some, None, IsSome, Result, Ok, Err, ap, sym, subst, ◌∙◌, arith, inl, inr}
 use Rattle.std.specs.FinMap as map
+use Rattle.std.specs.Prelude.{IfErr}
+use Rattle.std.specs.Result.{IsErrAnd}
 use Rattle.std.proofs.lemmas.Bool.{cases_eq}
 use Rattle.std.proofs.lemmas.List.{get_or-take, length-take-le}
 use Rattle.stripe_map.specs.Chunks.{chunk_of_position, KeepsOthers}
@@ -127,3 +129,14 @@ short_one_more old new p bytes bound value others short q other some = elim (cas
   | inl e ↦ subst (λ (b : List ℕ). length b ≤ max_file) (same_bytes bytes other (sym value ∙ ap (chunk_of_position new) (sym e) ∙ some)) bound
   | inr ne ↦ short q other (sym (others q ne) ∙ some)
 ]
+
+-- reading stopped where memory ran out
+pub out_of_memory : (files : Option FileMap) (name : List ℕ) (listed : List ℕ) (i : ℕ) → i < length listed → StopsReading files name listed NoMemory
+out_of_memory None name listed i lt = (i, lt, tt)
+out_of_memory (Some files) name listed i lt = (i, lt, tt)
+
+-- what is answered with a reason to stop reading
+pub stopped_by : {T : Type 0} → (files : Option FileMap) (name : List ℕ) (listed : List ℕ) (answer : Result T Stop) (stop : Stop)
+    → IsErrAnd answer (λ s. s ≡ stop) → StopsReading files name listed stop → IfErr answer (StopsReading files name listed)
+stopped_by {T} files name listed (Ok done) stop is stops = tt
+stopped_by {T} files name listed (Err s) stop is stops = subst (λ (x : Stop). StopsReading files name listed x) (sym is) stops

@@ -1,10 +1,11 @@
+mod BackLemmas
 mod ChunkFileLemmas
 mod DecodeLemmas
 mod DoneLemmas
 mod EncodeLemmas
 mod FetchLemmas
 mod FileLemmas
-mod FileOfLemmas
+mod GatherLemmas
 mod MapLemmas
 mod ParameterLemmas
 mod PlanLemmas

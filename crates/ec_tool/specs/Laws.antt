@@ -1,7 +1,14 @@
 -- Laws about the definitions of this crate. Source: this project.
-use Rattle.std.specs.Prelude.{◌≡◌, ◌≢◌, ◌<◌, ◌≤◌, ◌↔◌, ℕ, List, length, Option, Some, None, Result, Ok, Err, IsSomeAnd}
+use Rattle.std.specs.Prelude.{◌≡◌, ◌≢◌, ◌<◌, ◌≤◌, ◌^◌, ◌↔◌, ℕ, List, [], length, slice_index, Option, Some, None, Result, Ok, Err, IsSomeAnd}
+use Rattle.std.specs.List.{All}
 use Rattle.std.specs.FinMap as map
+use Rattle.ec_model.specs.Codes.{CodeRows, IsCode}
+use Rattle.ec_model.specs.Stripes.{padded}
+use Rattle.ec_tool.specs.Chunks.{AreBelow, Written, after, AreChunkFiles, DecideTheData}
+use Rattle.ec_tool.specs.Decoding.{IsAmong}
 use Rattle.ec_tool.specs.Files.{FileMap, AnswersFor, KeepsOthers, max_file}
+use Rattle.ec_tool.specs.Runs.{Decodes}
+use Rattle.ec_tool.specs.Words.{Job}
 use Rattle.ec_tool.specs.declared.fault.FileFault.{FileFault}
 use Rattle.ec_tool.specs.declared.fault.FileFault.TheVariants.{Missing, TooLong, Failed, NoMemory}
 
@@ -22,3 +29,26 @@ abbrev pub WrittenFilesAreFound : Type 0
 WrittenFilesAreFound =
     (old : FileMap) (name bytes : List ℕ)
     → (map.get (map.insert old name bytes) name ≡ Some bytes) × KeepsOthers old (map.insert old name bytes) name
+
+-- chunk files that `encode` wrote of a file with these bytes, and a job that lists some of its positions, which decide the data
+pub record AreListed (code : CodeRows) (bytes encoded : List ℕ) (written : List Written) (job : Job) : Type 0 where
+  pub some_unit : 1 ≤ job.unit
+  pub all_bytes : All (λ b. b < 2 ^ 8) bytes
+  pub encoded_below : AreBelow code.n encoded
+  pub are : AreChunkFiles code job.unit job.name bytes encoded written
+  pub some_listed : 1 ≤ length job.wanted
+  pub listed_below : AreBelow code.n job.wanted
+  pub among : (i : ℕ) → i < length job.wanted → IsAmong encoded (slice_index job.wanted i)
+  pub decide : DecideTheData code job.wanted
+
+-- a file came back, with these bytes; or it is told that there are more of them than a file may have, and no file changed
+pub record ComesBack (job : Job) (files : FileMap) (bytes : List ℕ) (status : ℕ) (line : List ℕ) (now : Option FileMap) : Type 0 where
+  pub whole : length bytes ≤ max_file → (status ≡ 0) × (line ≡ []) × (now ≡ Some (map.insert files job.name bytes))
+  pub too_long : max_file < length bytes → (status ≡ 8) × (now ≡ Some files)
+
+-- what `encode` wrote of a file is decoded to that file, padded with zeros to whole stripes
+abbrev pub EncodedFilesComeBack : Type 0
+EncodedFilesComeBack =
+    (code : CodeRows) (bytes encoded : List ℕ) (files : FileMap) (written : List Written) (job : Job) (status : ℕ) (line : List ℕ) (now : Option FileMap)
+    → IsCode code → AreListed code bytes encoded written job → Decodes code job (Some (after files written)) status line now
+    → ComesBack job (after files written) (padded code.k job.unit bytes) status line now

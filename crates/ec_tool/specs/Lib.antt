@@ -3,6 +3,7 @@ pub mod Chunks
 pub mod Decoding
 pub mod Encoding
 pub mod Files
+pub mod Gathering
 pub mod Headline
 pub mod Jobs
 pub mod Laws

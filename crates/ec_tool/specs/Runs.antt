@@ -41,6 +41,32 @@ abbrev pub WhereTold : Option FileMap → (FileMap → Type 0) → Type 0
 WhereTold (Some files) so = so files
 WhereTold None so = ⊤
 
+-- the file of a wanted position's chunks
+abbrev pub IsChunkFileOf : Job → List ℕ → Type 0
+IsChunkFileOf job name = (i : ℕ) × ((i < length job.wanted) × (name ≡ chunk_name job.name (slice_index job.wanted i)))
+
+-- a file of a job: the file itself, or that of a wanted position's chunks
+abbrev pub IsFileOf : Job → List ℕ → Type 0
+IsFileOf job name = (name ≡ job.name) ⊎ IsChunkFileOf job name
+
+-- a status, and the line that is said with it
+abbrev pub Answers : ℕ → List ℕ → ℕ → List ℕ → Type 0
+Answers its_status its_line status line = (status ≡ its_status) × (line ≡ its_line)
+
+-- what `encode` of wanted positions that are all of the code's may answer, whether files are told or not: it is done, or the
+-- file is not there, or it is too long
+abbrev pub EncodeAnswers : Job → ℕ → List ℕ → Type 0
+EncodeAnswers job status line = Answers 0 [] status line ⊎ Answers 4 (missing_line job.name) status line ⊎ Answers 8 (too_long_line job.name) status line
+
+-- what `decode` of listed positions that are all of the code's and decide its data may answer, whether files are told or not: it
+-- is done, or a chunk file is not there, or their lengths are wrong, or a chunk file or the file itself is too long
+abbrev pub DecodeAnswers : Job → ℕ → List ℕ → Type 0
+DecodeAnswers job status line =
+    Answers 0 [] status line
+    ⊎ ((name : List ℕ) × IsChunkFileOf job name × Answers 4 (missing_line name) status line)
+    ⊎ Answers 7 lengths_line status line
+    ⊎ ((name : List ℕ) × IsFileOf job name × Answers 8 (too_long_line name) status line)
+
 -- `encode` of wanted positions that are all of the code's, by the file that is read
 pub record EncodesFiles (code : CodeRows) (job : Job) (status : ℕ) (line : List ℕ) (now : Option FileMap) (files : FileMap) : Type 0 where
   pub missing : map.get files job.name ≡ None → Stops 4 (missing_line job.name) status line (Some files) now
@@ -54,6 +80,7 @@ pub record EncodesFiles (code : CodeRows) (job : Job) (status : ℕ) (line : Lis
 pub record Encodes (code : CodeRows) (job : Job) (before : Option FileMap) (status : ℕ) (line : List ℕ) (now : Option FileMap) : Type 0 where
   pub outside : (AreBelow code.n job.wanted → ⊥) → Stops 2 usage_line status line before now
   pub only_outside : status ≡ 2 → AreBelow code.n job.wanted → ⊥
+  pub answers : AreBelow code.n job.wanted → EncodeAnswers job status line
   pub files : AreBelow code.n job.wanted → WhereTold before (EncodesFiles code job status line now)
 
 -- `encode` was stopped by a failure or by want of memory: the chunks of the first wanted positions were written, and the file
@@ -66,10 +93,6 @@ pub record EncodesInPart (code : CodeRows) (job : Job) (files now : FileMap) : T
   pub written : List Written
   pub are : AreChunkFiles code job.unit job.name bytes (take count job.wanted) written
   pub others : KeepsOthers (after files written) now (chunk_name job.name (slice_index job.wanted count))
-
--- a file of a job: the file itself, or that of a wanted position's chunks
-abbrev pub IsFileOf : Job → List ℕ → Type 0
-IsFileOf job name = (name ≡ job.name) ⊎ ((i : ℕ) × ((i < length job.wanted) × (name ≡ chunk_name job.name (slice_index job.wanted i))))
 
 -- `decode` of listed positions that are all of the code's and decide its data, by the files that are read in turn: then their
 -- lengths, and then the length of what is decoded
@@ -95,4 +118,5 @@ pub record Decodes (code : CodeRows) (job : Job) (before : Option FileMap) (stat
   pub only_outside : status ≡ 2 → AreBelow code.n job.wanted → ⊥
   pub not_decided : AreBelow code.n job.wanted → (DecideTheData code job.wanted → ⊥) → Stops 6 not_decided_line status line before now
   pub only_not_decided : status ≡ 6 → DecideTheData code job.wanted → ⊥
+  pub answers : AreBelow code.n job.wanted → DecideTheData code job.wanted → DecodeAnswers job status line
   pub files : AreBelow code.n job.wanted → DecideTheData code job.wanted → WhereTold before (DecodesFiles code job status line now)

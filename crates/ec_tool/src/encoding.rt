@@ -19,7 +19,7 @@ use crate::stop::Stop;
 use ec_code::Code;
 use ec_words::Geometry;
 use std::alloc::Global;
-use stripe_map::encode_object;
+use stripe_map::encode_into;
 
 /// Writes the chunks of each wanted position of a file.
 pub fn encode_file<F: Files>(
@@ -58,13 +58,14 @@ fn write_chunks<F: Files>(
     ensures failed { status_after result ≡ 5 → Rose (F.faults files.old) (F.faults files.new) }
     ensures quiet { status_after result ≢ 5 → F.faults files.new ≡ F.faults files.old }
 {
+    let mut list = Vec::new(alloc);
     for i in 0..wanted.len() {
-        write_chunk(alloc, name, wanted[i], code, g, bytes, files)?;
+        write_chunk(alloc, name, wanted[i], code, g, bytes, &mut list, files)?;
     }
     Ok(())
 }
 
-// Writes the chunks of one position.
+// Writes the chunks of one position, which are made in the memory of a list that the next position has again.
 fn write_chunk<F: Files>(
     alloc: Global,
     name: &str,
@@ -72,6 +73,7 @@ fn write_chunk<F: Files>(
     code: &dyn Code,
     g: Geometry,
     bytes: &[u8],
+    list: &mut Vec<u8>,
     files: &mut F,
 ) -> Result<(), Stop>
     requires same_k { g.k ≡ (meaning code.now).k }
@@ -81,7 +83,7 @@ fn write_chunk<F: Files>(
     ensures failed { status_after result ≡ 5 → Rose (F.faults files.old) (F.faults files.new) }
     ensures quiet { status_after result ≢ 5 → F.faults files.new ≡ F.faults files.old }
 {
-    let chunks = encode_object(alloc, code, g, bytes, p)?;
+    encode_into(alloc, code, g, bytes, p, list)?;
     let file = chunk_name(alloc, name, p)?;
-    write(file, chunks.as_slice(), files)
+    write(file, list, files)
 }

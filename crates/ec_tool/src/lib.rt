@@ -1,17 +1,22 @@
-//! The command line of erasure codes over files: so far the files that it stands on.
+//! The command line of erasure codes over files, as the program `ceph_ec_tool` has it.
 //!
-//! Headline: what [`Files`] reads is all of a file, a refusal of it has its cause, and a write changes no other file,
-//! where the implementor tells its files. A call fails only where the count of faults rose. [`MemFiles`] tells all and
-//! fails where a test plans it; [`DiskFiles`] is the real one, and tells no files.
+//! Headline: a run of [`tool`] does what its words ask for, over the files that are there: `encode` writes for each wanted
+//! position exactly its chunks, and `decode` the file that the chunks of the least deciding set among the listed positions are
+//! of. A refusal or a failure ends with the status and the line of the first fault, in one order. What [`Files`] reads is all of
+//! a file, a refusal of it has its cause, and a write changes no other file, where the implementor tells its files. A call fails
+//! only where the count of faults rose. [`MemFiles`] tells all and fails where a test plans it; [`DiskFiles`] is the real one,
+//! and tells no files.
 #![tactic(auto)]
 
 mod access;
+mod adding;
 mod commands;
 mod decoding;
 mod edge;
 mod encoding;
 mod fault;
 mod files;
+mod gathering;
 mod geometry;
 mod laws;
 mod limits;
@@ -31,7 +36,7 @@ mod words;
 pub use edge::DiskFiles;
 pub use fault::FileFault;
 pub use files::Files;
-pub use laws::{answers_are_exact, written_files_are_found};
+pub use laws::{answers_are_exact, encoded_files_come_back, written_files_are_found};
 pub use limits::MAX_FILE;
 pub use mem_files::MemFiles;
 pub use program::{ToolStatus, tool};

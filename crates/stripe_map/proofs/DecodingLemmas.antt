@@ -68,7 +68,7 @@ chunk_long unit list index count long lt =
     let next : (index + 1) * unit ≡ index * unit + unit = times_next index unit in
     omega (arith, length-take unit (drop (index * unit) list), length-drop (index * unit) list)
 
-padded_byte : (k unit : ℕ) (bytes : List ℕ) (i : ℕ) → All (λ b. b < 2 ^ 8) bytes → slice_index (padded k unit bytes) i < 2 ^ 8
+pub padded_byte : (k unit : ℕ) (bytes : List ℕ) (i : ℕ) → All (λ b. b < 2 ^ 8) bytes → slice_index (padded k unit bytes) i < 2 ^ 8
 padded_byte k unit bytes i all =
     let whole = padded k unit bytes in
     let each = All-append (λ b. b < 2 ^ 8) bytes (replicate (stripe_count k unit (length bytes) * (k * unit) - length bytes) 0) all (All-replicate (λ b. b < 2 ^ 8) _ 0 (lit< tt)) in
@@ -81,7 +81,7 @@ padded_byte k unit bytes i all =
     past i ge = get_or_past (padded k unit bytes) i 0 ge
 
 -- the sum at a data position is the data chunk
-data_sum : (code : CodeRows) (i : ℕ) (f : ℕ → ℕ) → IsCode code → i < code.k → f i < 2 ^ 8
+pub data_sum : (code : CodeRows) (i : ℕ) (f : ℕ → ℕ) → IsCode code → i < code.k → f i < 2 ^ 8
     → sum_below code.k (λ j. field_product (entry_at code.rows (slice_index code.places i) j) (f j)) ≡ f i
 data_sum code i f is lt byte =
     sum_below-single code.k i (λ j. field_product (entry_at code.rows (slice_index code.places i) j) (f j)) lt

@@ -1,3 +1,4 @@
+pub mod AssemblyLemmas
 mod ChunkLemmas
 mod DecodingJoinLemmas
 mod DecodingLemmas

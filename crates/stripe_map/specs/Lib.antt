@@ -1,3 +1,5 @@
+pub mod Assembling
+pub mod AssemblingLaws
 pub mod Chunks
 pub mod Decoding
 pub mod DecodingLaws

@@ -1,6 +1,6 @@
 //! The chunks of one position of an object, one after another. Source: Ceph developer guide, "Erasure Coded pool": a stripe is
 //! `k * stripe_unit` bytes of the object, and the last one is padded with zeros.
-ghost use Rattle.std.specs.Prelude.{◌≡◌, ◌<◌, ◌≤◌, ◌*◌, ℕ, length, slice_index, IfOk};
+ghost use Rattle.std.specs.Prelude.{◌≡◌, ◌<◌, ◌≤◌, ◌*◌, ℕ, length, slice_index, IfOk, OnOk};
 ghost use Rattle.ec_model.specs.Rows.{entry_at};
 ghost use Rattle.ec_model.specs.Codes.{IsPositionList};
 ghost use Rattle.ec_model.specs.Stripes.{stripe_count, shard_len, padded, chunk_at};
@@ -26,10 +26,29 @@ pub fn encode_object(
     requires p { p < (meaning code.now).n }
     ensures { IfOk result (IsPositionList (meaning code.now) g.unit bytes.now p) }
 {
+    let mut list = Vec::new(alloc);
+    encode_into(alloc, code, g, bytes, p, &mut list)?;
+    Ok(Bytes::of(list))
+}
+
+/// Makes a list the chunks that [`encode_object`] gives, in the memory that the list has where they fit into it. After `Err` the
+/// list may have any bytes.
+pub fn encode_into(
+    alloc: Global,
+    code: &dyn Code,
+    g: Geometry,
+    bytes: &[u8],
+    p: u8,
+    list: &mut Vec<u8>,
+) -> Result<(), NoMemory>
+    requires same_k { g.k ≡ (meaning code.now).k }
+    requires within_limit { length bytes.now ≤ MAX_OBJECT }
+    requires p { p < (meaning code.now).n }
+    ensures { OnOk result (IsPositionList (meaning code.now) g.unit bytes.now p list.new.items) }
+{
     let row = row_of(code, p);
     let last = padded_rest(alloc, bytes, g.k as usize * g.unit as usize)?;
-    let list = encode_stripes(alloc, &row, g, bytes, &last)?;
-    Ok(Bytes::of(list))
+    encode_stripes(alloc, &row, g, bytes, &last, list)
 }
 
 /// The row of a position.
@@ -81,24 +100,26 @@ fn encode_stripes(
     g: Geometry,
     bytes: &[u8],
     last: &[u8],
-) -> Result<Vec<u8>, NoMemory>
+    list: &mut Vec<u8>,
+) -> Result<(), NoMemory>
     requires k { g.k ≤ 16 }
     requires within_limit { length bytes.now ≤ MAX_OBJECT }
     requires last { last.now ≡ last_stripe (g.k * g.unit) bytes.now }
-    ensures long { IfOk result (λ list. length list.items ≡ shard_len g.k g.unit (length bytes.now)) }
-    ensures value { IfOk result (λ list. HasStripes g.k g.unit row.now bytes.now
-        (stripe_count g.k g.unit (length bytes.now)) list.items) }
+    ensures long { OnOk result (length list.new.items ≡ shard_len g.k g.unit (length bytes.now)) }
+    ensures value { OnOk result (HasStripes g.k g.unit row.now bytes.now
+        (stripe_count g.k g.unit (length bytes.now)) list.new.items) }
 {
     let unit = g.unit as usize;
     let count = bytes.len().div_ceil(g.k as usize * unit);
     let mut chunk = vec![in alloc; 0u8; unit]?;
-    let mut list = Vec::with_capacity(alloc, count * unit)?;
+    list.clear();
+    list.reserve(count * unit)?;
     for stripe in 0..count {
         let stripe = stripe_of(g, bytes, last, stripe);
         encode_chunk(row, g.k, stripe, unit, &mut chunk);
         list.extend_from_slice(&chunk)?;
     }
-    Ok(list)
+    Ok(())
 }
 
 #[cfg(test)]

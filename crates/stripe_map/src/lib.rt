@@ -9,6 +9,7 @@
 //! chunks at data position 1 are 5, 6, 7, 8, 0, 0, 0, 0, and the bytes 7 and 8 and the next touch both stripes.
 #![tactic(auto)]
 
+mod assembling;
 mod chunks;
 mod combining;
 mod decoding;
@@ -20,10 +21,12 @@ mod limits;
 mod sizes;
 mod touch;
 
+pub use assembling::{add_position, object_of_zeros};
 pub use chunks::Chunks;
+pub use combining::data_rows;
 pub use decoding::{DecodeFault, decode_object};
-pub use encoding::encode_object;
-pub use laws::data_positions_are_a_mask;
+pub use encoding::{encode_into, encode_object};
+pub use laws::{data_positions_are_a_mask, what_is_made_is_the_object};
 pub use limits::{ALIGNMENT, MAX_BUFFER, MAX_OBJECT};
 pub use sizes::chunk_size;
 pub use touch::touched;

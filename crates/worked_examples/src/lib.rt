@@ -14,6 +14,8 @@ mod run;
 #[cfg(test)]
 mod texts;
 #[cfg(test)]
+mod tool_refusals;
+#[cfg(test)]
 mod tool_run;
 #[cfg(test)]
 mod tools;

@@ -11,6 +11,10 @@ use shec_matrix::Shec;
 use std::alloc::{AllocError, Global};
 use std::test::Fail;
 
+/// Said where the words are no command.
+pub const USAGE: &[u8] =
+    b"usage: ceph_ec_tool test-plugin-exists, validate-profile, calc-chunk-size, encode, decode\n";
+
 /// The status with which the tool ends on these words over these files.
 pub fn ended(
     alloc: Global,
@@ -23,6 +27,23 @@ pub fn ended(
         list.push(String::from_str(alloc, word)?)?;
     }
     Ok(served(alloc, &list, files, rig)?.0)
+}
+
+/// Whether the tool ends with this status and this line on words that are parted by blanks.
+pub fn ends(
+    alloc: Global,
+    files: &mut MemFiles,
+    words: &str,
+    status: u8,
+    said: &[u8],
+) -> Result<bool, Fail> {
+    let mut list = Vec::new(alloc);
+    for word in words.split(' ') {
+        list.push(String::from_str(alloc, word)?)?;
+    }
+    let mut rig = MemRig::new(alloc)?;
+    let ended = served(alloc, &list, files, &mut rig)?.0;
+    Ok(ended == status && rig.said() == said)
 }
 
 // Makes the boxes, as the program does, and calls. Each plugin has its box, so the test of it never fails.
@@ -40,6 +61,20 @@ fn served(
         return Err(NoMemory);
     }
     Ok(tool(alloc, words, &mut boxes, files, rig))
+}
+
+/// Makes a file of this name, of so many bytes 7; none where there is no length.
+pub fn put(
+    alloc: Global,
+    files: &mut MemFiles,
+    name: &str,
+    long: Option<usize>,
+) -> Result<(), Fail> {
+    match long {
+        Some(long) => files.put(name, Bytes::of(vec![in alloc; 7u8; long]?))?,
+        None => {}
+    }
+    Ok(())
 }
 
 /// A file `f` of 128 bytes: 32 of each of 1, 2, 3 and 4.

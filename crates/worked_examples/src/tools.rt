@@ -1,16 +1,17 @@
-//! Examples 20 to 23: the tool over files.
+//! Examples 20 to 22 and 24: the tool over files.
 
-use crate::tool_run::{ended, four_units, is_filled};
+use crate::tool_run::{USAGE, ended, four_units, is_filled};
 use ec_tool::MemFiles;
 use rig_disk::MemRig;
 use std::alloc::Global;
 use std::test::Fail;
 
+const FOUR_AND_TWO: &str = "k=4,m=2";
+
+const SHINGLED: &str = "plugin=shec,technique=single,k=4,m=3,c=2";
+
 const LAYERED: &str =
     "plugin=lrc,mapping=__DD__DD,layers=[ [ \"_cDD_cDD\", \"\" ], [ \"cDDD____\", \"\" ], [ \"____cDDD\", \"\" ], ]";
-
-const USAGE: &[u8] =
-    b"usage: ceph_ec_tool test-plugin-exists, validate-profile, calc-chunk-size, encode, decode\n";
 
 // From the rule: the names of the plugins, the numbers of a code, and chunks of a multiple of 32 bytes.
 #[test]
@@ -60,57 +61,38 @@ fn example_20_what_needs_no_file(rt: HostRuntime) -> Result<(), Fail> {
 #[test]
 fn example_21_each_position_has_its_file(rt: HostRuntime) -> Result<(), Fail> {
     let alloc = rt.alloc();
-    let rows: [(&str, &str, &[(&str, u8)]); 4] = [
-        (
-            "k=4,m=2",
-            "0,1,2,3,4,5",
-            &[
-                ("f.0", 1),
-                ("f.1", 2),
-                ("f.2", 3),
-                ("f.3", 4),
-                ("f.4", 4),
-                ("f.5", 6),
-            ],
-        ),
-        ("k=4,m=2", "5,2", &[("f.5", 6), ("f.2", 3)]),
-        (
-            "plugin=shec,technique=single,k=4,m=3,c=2",
-            "4,5,6",
-            &[("f.4", 3), ("f.5", 0xc1), ("f.6", 0x8a)],
-        ),
-        (
-            LAYERED,
-            "0,1,2,3,4,5,6,7",
-            &[
-                ("f.0", 7),
-                ("f.1", 4),
-                ("f.2", 1),
-                ("f.3", 2),
-                ("f.4", 1),
-                ("f.5", 6),
-                ("f.6", 3),
-                ("f.7", 4),
-            ],
-        ),
+    let rows: [(&str, &str, &str, u8); 19] = [
+        (FOUR_AND_TWO, "0,1,2,3,4,5", "f.0", 1),
+        (FOUR_AND_TWO, "0,1,2,3,4,5", "f.1", 2),
+        (FOUR_AND_TWO, "0,1,2,3,4,5", "f.2", 3),
+        (FOUR_AND_TWO, "0,1,2,3,4,5", "f.3", 4),
+        (FOUR_AND_TWO, "0,1,2,3,4,5", "f.4", 4),
+        (FOUR_AND_TWO, "0,1,2,3,4,5", "f.5", 6),
+        (FOUR_AND_TWO, "5,2", "f.5", 6),
+        (FOUR_AND_TWO, "5,2", "f.2", 3),
+        (SHINGLED, "6,4,5", "f.4", 3),
+        (SHINGLED, "6,4,5", "f.5", 0xc1),
+        (SHINGLED, "6,4,5", "f.6", 0x8a),
+        (LAYERED, "0,1,2,3,4,5,6,7", "f.0", 7),
+        (LAYERED, "0,1,2,3,4,5,6,7", "f.1", 4),
+        (LAYERED, "0,1,2,3,4,5,6,7", "f.2", 1),
+        (LAYERED, "0,1,2,3,4,5,6,7", "f.3", 2),
+        (LAYERED, "0,1,2,3,4,5,6,7", "f.4", 1),
+        (LAYERED, "0,1,2,3,4,5,6,7", "f.5", 6),
+        (LAYERED, "0,1,2,3,4,5,6,7", "f.6", 3),
+        (LAYERED, "0,1,2,3,4,5,6,7", "f.7", 4),
     ];
-    for (profile, wanted, chunks) in rows {
+    for (profile, wanted, name, byte) in rows {
         let mut files = four_units(alloc)?;
         let mut rig = MemRig::new(alloc)?;
-        let status = ended(
-            alloc,
-            &["encode", profile, "32", wanted, "f"],
-            &mut files,
-            &mut rig,
-        )?;
+        let words = ["encode", profile, "32", wanted, "f"];
+        let status = ended(alloc, &words, &mut files, &mut rig)?;
         assert_eq!(rt; status, 0, "at {profile}");
         assert!(rt; rig.said().is_empty(), "at {profile}");
-        for (name, byte) in chunks {
-            assert!(rt;
-                is_filled(alloc, &files, name, *byte, 32)?,
-                "{name} of {profile}"
-            );
-        }
+        assert!(rt;
+            is_filled(alloc, &files, name, byte, 32)?,
+            "{name} of {profile}"
+        );
     }
     Ok(())
 }
@@ -119,7 +101,7 @@ fn example_21_each_position_has_its_file(rt: HostRuntime) -> Result<(), Fail> {
 fn encoded(alloc: Global) -> Result<MemFiles, Fail> {
     let mut files = four_units(alloc)?;
     let mut rig = MemRig::new(alloc)?;
-    let words = ["encode", "k=4,m=2", "32", "0,1,2,3,4,5", "f"];
+    let words = ["encode", FOUR_AND_TWO, "32", "0,1,2,3,4,5", "f"];
     ended(alloc, &words, &mut files, &mut rig)?;
     files.put("f", ec_words::Bytes::new(alloc))?;
     Ok(files)
@@ -135,7 +117,7 @@ fn example_22_the_file_comes_back(rt: HostRuntime) -> Result<(), Fail> {
         let mut rig = MemRig::new(alloc)?;
         let status = ended(
             alloc,
-            &["decode", "k=4,m=2", "32", listed, "f"],
+            &["decode", FOUR_AND_TWO, "32", listed, "f"],
             &mut files,
             &mut rig,
         )?;
@@ -147,12 +129,12 @@ fn example_22_the_file_comes_back(rt: HostRuntime) -> Result<(), Fail> {
 
 // From the rule: what was written before a failure stays. The read is the first call.
 #[test]
-fn example_23_files_stay_as_they_are_at_a_failure(rt: HostRuntime) -> Result<(), Fail> {
+fn example_24_files_stay_as_they_are_at_a_failure(rt: HostRuntime) -> Result<(), Fail> {
     let alloc = rt.alloc();
     let mut files = four_units(alloc)?;
     let mut rig = MemRig::new(alloc)?;
     files.fail_at(3);
-    let words = ["encode", "k=4,m=2", "32", "5,2,0", "f"];
+    let words = ["encode", FOUR_AND_TWO, "32", "5,2,0", "f"];
     assert_eq!(rt; ended(alloc, &words, &mut files, &mut rig)?, 5);
     assert_eq!(rt; rig.said(), b"failed f.2\n".as_slice());
     assert!(rt; is_filled(alloc, &files, "f.5", 6, 32)?);
