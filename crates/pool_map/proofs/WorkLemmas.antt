@@ -1,0 +1,173 @@
+-- One step more on a map: its text and its moments.
+use Rattle.std.proofs.Common.{◌+◌, ◌<◌, ◌^◌, Bool, false, if◌then◌else◌, ◌≡◌, inl, inr, ⊎_elim, ◌++◌, ◌∷◌, [], ℕ, List, Option, Ok, Some, true, length, arith, refl, sym, ap, subst, ◌∙◌}
+use Rattle.std.proofs.lemmas.Bool.{cond-true}
+use Rattle.std.proofs.lemmas.Bool.Decides.{nat_tests}
+use Rattle.std.proofs.lemmas.List.{append-nil, length-append}
+use Rattle.ec_code.specs.declared.profile.Profile.{Profile as Plain}
+use Rattle.ec_code.specs.JsonProfiles.{profile_of_bytes}
+use Rattle.plugin_reg.specs.Canonical.{canonical_lines}
+use Rattle.shard_model.specs.StepBytes.{IsWord}
+use Rattle.rig_disk.specs.Disk.{Image}
+use Rattle.rig_disk.specs.During.{During}
+use Rattle.rig_disk.proofs.Moments.{started, weaker}
+use Rattle.slot_journal.specs.InUse.{Areas, text_in_use}
+use Rattle.slot_journal.specs.Journal.{Holds, InSlot, Commits, Makes, gate_of, slot_of}
+use Rattle.slot_journal.specs.Text.{IsText}
+use Rattle.slot_journal.specs.Writing.{next_gate}
+use Rattle.slot_journal.specs.declared.journal.Journal.{Journal}
+use Rattle.pool_map.specs.Maps.{PoolImage, Story, last_epoch, epoch_limit, Leads, LeadAll, fits, story_of, story_after, replay, map_head, IsMapOf}
+use Rattle.pool_map.specs.Pool.{HoldsMap, map_after, new_map, MakesMap, Steps}
+use Rattle.pool_map.specs.Steps.{MapStep, Begin, Mark, step_bytes, IsWritable}
+
+one_step : (n : ℕ) (story : Story) (s : MapStep) → fits n story s ≡ true → replay n (s ∷ []) story ≡ Some (story_after story s)
+unfolding replay
+one_step n story s fit = cond-true _ _ _ fit
+
+pub leads_one : (n : ℕ) (story : Story) (s : MapStep) (body : List ℕ) → body ≡ step_bytes s → IsWritable s → fits n story s ≡ true → Leads n story body (story_after story s)
+leads_one n story s body is writable fit = record {
+  steps = s ∷ [];
+  writable = (writable, tt);
+  bytes = is ∙ sym (append-nil (step_bytes s));
+  done = one_step n story s fit;
+}
+
+pub lead_more : (n : ℕ) (a b c : Story) (bodies : List (List ℕ)) (body : List ℕ) → LeadAll n a bodies b → Leads n b body c → LeadAll n a (bodies ++ body ∷ []) c
+lead_more n a b c [] body lead leads = (c, (subst (λ (x : Story). Leads n x body c) (sym lead) leads, refl))
+lead_more n a b c (first ∷ bodies) body lead leads = (lead.0, (lead.1.0, lead_more n lead.0 b c bodies body lead.1.1 leads))
+
+module _ (m : PoolImage) (s : MapStep) (body : List ℕ) (is : body ≡ step_bytes s) (writable : IsWritable s) (fit : fits m.n (story_of m) s ≡ true) where
+  pub gives_more : (k unit : ℕ) (bodies : List (List ℕ)) → IsMapOf k unit bodies m → IsMapOf k unit (bodies ++ body ∷ []) (map_after m s)
+  gives_more k unit bodies gives = record {
+    lines = gives.lines;
+    rest = gives.rest;
+    more = gives.more ++ body ∷ [];
+    counted = gives.counted;
+    bytes = ap (λ (bs : List (List ℕ)). bs ++ body ∷ []) gives.bytes;
+    canonical = gives.canonical;
+    lead = lead_more m.n _ (story_of m) (story_after (story_of m) s) (gives.rest ∷ gives.more) body gives.lead (leads_one m.n (story_of m) s body is writable fit);
+    first_format = gives.first_format;
+    first_clean = gives.first_clean;
+  }
+
+  module _ (reads : ℕ → ℕ → Option (List ℕ)) (images : Image → List ℕ → Type 0) (journal : Journal) where
+    pub steps_of : (before after : Areas) → Commits reads images journal body before after → Steps reads images journal m s before after
+    steps_of before after commits = record {
+      others = commits.others;
+      maps = λ text held.
+          ⊎_elim
+          (λ was. inl (record { k = held.k; unit = held.unit; word = held.word; bodies = held.bodies; place = gate_of journal; is_text = was; gives = held.gives }))
+          (λ now. inr (record {
+            k = held.k;
+            unit = held.unit;
+            word = held.word;
+            bodies = held.bodies ++ body ∷ [];
+            place = next_gate (gate_of journal) body;
+            is_text = now;
+            gives = gives_more held.k held.unit held.bodies held.gives;
+          }))
+          (commits.records (map_head held.k m.n held.unit) held.bodies text held.holds);
+    }
+
+    pub held_on : (reads_then : ℕ → ℕ → Option (List ℕ)) (images_then : Image → List ℕ → Type 0) (later : Journal)
+        → ((head : List ℕ) (bodies : List (List ℕ)) (text : List ℕ) → Holds reads images journal head bodies text
+        → (after : List ℕ) × Holds reads_then images_then later head (bodies ++ body ∷ []) after)
+        → (text : List ℕ) → HoldsMap reads images journal m text → (after : List ℕ) × HoldsMap reads_then images_then later (map_after m s) after
+    held_on reads_then images_then later done text held =
+        let more = done (map_head held.k m.n held.unit) held.bodies text held.holds in (
+          more.0,
+          record {
+            k = held.k;
+            unit = held.unit;
+            word = held.word;
+            bodies = held.bodies ++ body ∷ [];
+            holds = more.1;
+            gives = gives_more held.k held.unit held.bodies held.gives;
+          },
+        )
+
+  pub step_moments : {R : Type 0} (clock_of : R → ℕ) (images_of : R → ℕ → Image → List ℕ → Type 0) (reads : ℕ → ℕ → Option (List ℕ)) (journal : Journal) (slot : ℕ) (old new : R)
+      → During clock_of images_of old new (InSlot (images_of old (clock_of old)) slot (Commits reads (images_of old (clock_of old)) journal body))
+      → During clock_of images_of old new (InSlot (images_of old (clock_of old)) slot (Steps reads (images_of old (clock_of old)) journal m s))
+  step_moments {R} clock_of images_of reads journal slot old new run =
+      weaker clock_of images_of old new (InSlot (images_of old (clock_of old)) slot (Commits reads (images_of old (clock_of old)) journal body))
+      (InSlot (images_of old (clock_of old)) slot (Steps reads (images_of old (clock_of old)) journal m s)) run
+      (λ image said from. record {
+        source = from.source;
+        was = from.was;
+        others = from.others;
+        stepped = steps_of reads (images_of old (clock_of old)) journal (from.source slot) (image slot) from.stepped;
+      })
+
+-- the last of a list tells it apart
+pub same_front : {A : Type 0} (xs ys : List A) (x y : A) → xs ++ x ∷ [] ≡ ys ++ y ∷ [] → xs ≡ ys
+same_front {A} [] [] x y e = refl
+same_front {A} [] (b ∷ ys) x y e = absurd (omega (arith, ap length e, length-append ys (y ∷ [])))
+same_front {A} (a ∷ xs) [] x y e = absurd (omega (arith, ap length e, length-append xs (x ∷ [])))
+same_front {A} (a ∷ xs) (b ∷ ys) x y e =
+    let heads : a ≡ b = cc in
+    let tails : xs ++ x ∷ [] ≡ ys ++ y ∷ [] = cc in
+    (λ i. heads i ∷ same_front xs ys x y tails i)
+
+pub begin_fits : (n : ℕ) (story : Story) (up : ℕ) → last_epoch story.intervals + 1 < epoch_limit → up < 2 ^ n
+    → fits n story (Begin (last_epoch story.intervals + 1) up) ≡ true
+begin_fits n story up below inside = grind (arith, nat_tests)
+
+pub mark_fits : (n : ℕ) (story : Story) (slot : ℕ) (down : Bool) → slot < n → fits n story (Mark slot (if down then 1 else 0)) ≡ true
+mark_fits n story slot true below = grind (arith, nat_tests)
+mark_fits n story slot false below = grind (arith, nat_tests)
+
+-- a map that was not touched is the map of before
+module _ {R : Type 0} (clock_of : R → ℕ) (images_of : R → ℕ → Image → List ℕ → Type 0) (reads : ℕ → ℕ → Option (List ℕ)) (journal : Journal) (own : slot_of journal ≡ 16)
+    (m : PoolImage) (s : MapStep) (rig : R) where
+  pub unmoved : During clock_of images_of rig rig (InSlot (images_of rig (clock_of rig)) 16 (Steps reads (images_of rig (clock_of rig)) journal m s))
+  unmoved = started clock_of images_of rig (InSlot (images_of rig (clock_of rig)) 16 (Steps reads (images_of rig (clock_of rig)) journal m s))
+      (λ image said now. record {
+        source = image;
+        was = now;
+        others = λ t other a. refl;
+        stepped = record {
+          others = λ a other. refl;
+          maps = λ text held. inl (record {
+            k = held.k;
+            unit = held.unit;
+            word = held.word;
+            bodies = held.bodies;
+            place = gate_of journal;
+            is_text = subst (λ (t : List ℕ). IsText (map_head held.k m.n held.unit) held.bodies (gate_of journal) t)
+                (sym (subst (λ (t : ℕ). text_in_use (image t) ≡ text) own (held.holds.durable image said now))) held.holds.is_text;
+            gives = held.gives;
+          });
+        };
+      })
+
+-- the making of a text with a map's first record is the making of the map
+pub make_moments : {R : Type 0} (clock_of : R → ℕ) (images_of : R → ℕ → Image → List ℕ → Type 0) (reads : ℕ → Option (List ℕ)) (old new : R) (p own : Plain) (k n unit : ℕ) (head body : List ℕ)
+    → IsWord unit → head ≡ map_head k n unit → profile_of_bytes (canonical_lines p k n) ≡ Ok own → IsMapOf k unit (body ∷ []) (new_map own n)
+    → During clock_of images_of old new (InSlot (images_of old (clock_of old)) 16 (Makes reads head body))
+    → During clock_of images_of old new (InSlot (images_of old (clock_of old)) 16 (MakesMap reads p k n))
+make_moments {R} clock_of images_of reads old new p own k n unit head body word is read gives run =
+    weaker clock_of images_of old new (InSlot (images_of old (clock_of old)) 16 (Makes reads head body)) (InSlot (images_of old (clock_of old)) 16 (MakesMap reads p k n)) run
+    (λ image said from. record {
+      source = from.source;
+      was = from.was;
+      others = from.others;
+      stepped = record {
+        others = from.stepped.others;
+        texts = λ text told.
+            ⊎_elim (λ same. inl same) (λ more. inr (⊎_elim (λ none. inl none) (λ text_is. inr (
+              new_map own n,
+              (
+                record { own = own; read = read; is = refl },
+                record {
+                  k = k;
+                  unit = unit;
+                  word = word;
+                  bodies = body ∷ [];
+                  place = next_gate 24 body;
+                  is_text = subst (λ (h : List ℕ). IsText h (body ∷ []) (next_gate 24 body) (text_in_use (image 16))) is text_is;
+                  gives = gives;
+                },
+              ),
+            )) more)) (from.stepped.texts text told);
+      };
+    })

@@ -1,0 +1,24 @@
+use Rattle.std.proofs.Common.{rules, ◌∷◌, [], sym, subst}
+use Rattle.shard_model.specs.StepBytes.{IsWord}
+use Rattle.pool_map.specs.Maps.{IsMapOf}
+use Rattle.pool_map.specs.Pool.{new_map}
+use Rattle.pool_map.proofs.WorkLemmas.{make_moments}
+use Rattle.pool_map.proofs.map.PoolMap.make.Goals as goal
+
+pub returns-in_err-journal-clause-any_moment : goal.returns-in_err-journal-clause-any_moment
+returns-in_err-journal-clause-any_moment g c =
+    let first = c.in_ok-first.first in
+    let word : IsWord first.profile.stripe_unit = search rules in
+    make_moments g.R.Rig.clock g.R.Rig.images (g.R.Rig.reads c.args.rig.now 16) c.args.rig.now c.make.new.rig c.args.profile.now first.profile c.args.shape.k c.args.shape.n first.profile.stripe_unit
+    c.map_head-head.result c.as_slice.result.now word c.map_head-head.ensures c.in_ok-first.ensures.new
+    (subst (λ b. IsMapOf c.args.shape.k first.profile.stripe_unit (b ∷ []) (new_map first.profile c.args.shape.n)) (sym c.as_slice.ensures) c.in_ok-first.ensures.ok)
+    c.make.ensures.any_moment
+
+pub returns-clause-any_moment : goal.returns-clause-any_moment
+returns-clause-any_moment g c =
+    let first = c.in_ok-first.first in
+    let word : IsWord first.profile.stripe_unit = search rules in
+    make_moments g.R.Rig.clock g.R.Rig.images (g.R.Rig.reads c.args.rig.now 16) c.args.rig.now c.make.new.rig c.args.profile.now first.profile c.args.shape.k c.args.shape.n first.profile.stripe_unit
+    c.map_head-head.result c.as_slice.result.now word c.map_head-head.ensures c.in_ok-first.ensures.new
+    (subst (λ b. IsMapOf c.args.shape.k first.profile.stripe_unit (b ∷ []) (new_map first.profile c.args.shape.n)) (sym c.as_slice.ensures) c.in_ok-first.ensures.ok)
+    c.make.ensures.any_moment

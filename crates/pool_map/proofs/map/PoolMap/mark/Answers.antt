@@ -1,0 +1,48 @@
+use Rattle.std.proofs.Common.{rules, ◌≡◌, ℕ, List, if◌then◌else◌, ap, sym, subst, ◌∙◌}
+use Rattle.rig_disk.specs.During.{During}
+use Rattle.slot_journal.specs.Journal.{InSlot}
+use Rattle.pool_map.specs.Maps.{story_of, with_mark, with_story}
+use Rattle.pool_map.specs.Pool.{journal_of, map_of, HoldsMap, Steps}
+use Rattle.pool_map.specs.Steps.{Mark, step_bytes, IsWritable}
+use Rattle.pool_map.proofs.WorkLemmas.{held_on, step_moments, unmoved, mark_fits}
+use Rattle.pool_map.proofs.map.PoolMap.mark.Goals as goal
+
+pub returns-then-room-lt-MARK_ROOM-clause-any_moment : goal.returns-then-room-lt-MARK_ROOM-clause-any_moment
+returns-then-room-lt-MARK_ROOM-clause-any_moment g c = unmoved g.R.Rig.clock g.R.Rig.images (g.R.Rig.reads c.args.rig.now) c.args.self.now.journal c.args.self.now.own_slot (map_of c.args.self.now) (Mark c.args.slot (if c.args.down then 1 else 0)) c.args.rig.now
+
+pub returns-in_err-commit-clause-any_moment : goal.returns-in_err-commit-clause-any_moment
+returns-in_err-commit-clause-any_moment g c =
+    let images = g.R.Rig.images c.args.rig.now (g.R.Rig.clock c.args.rig.now) in
+    let m = map_of c.args.self.now in
+    let s = Mark c.args.slot (if c.args.down then 1 else 0) in
+    let body : c.mark_bytes.result ≡ step_bytes s = c.mark_bytes.ensures ∙ ap (λ d. step_bytes (Mark c.args.slot d)) c.down_byte-byte.ensures in
+    let writable : IsWritable s = search rules in
+    subst (λ slot. During g.R.Rig.clock g.R.Rig.images c.args.rig.now c.commit.new.rig (InSlot images slot (Steps (g.R.Rig.reads c.args.rig.now) images (journal_of c.args.self.now) m s)))
+    c.args.self.now.own_slot
+    (step_moments m s c.mark_bytes.result body writable (mark_fits m.n (story_of m) c.args.slot c.args.down c.requires.slot) g.R.Rig.clock g.R.Rig.images (g.R.Rig.reads c.args.rig.now) c.args.self.now.journal _
+    c.args.rig.now c.commit.new.rig c.commit.ensures.any_moment)
+
+pub returns-clause-ok : goal.returns-clause-ok
+returns-clause-ok g c = λ text held.
+    let images = g.R.Rig.images c.args.rig.now (g.R.Rig.clock c.args.rig.now) in
+    let m = map_of c.args.self.now in
+    let s = Mark c.args.slot (if c.args.down then 1 else 0) in
+    let body : c.mark_bytes.result ≡ step_bytes s = c.mark_bytes.ensures ∙ ap (λ d. step_bytes (Mark c.args.slot d)) c.down_byte-byte.ensures in
+    let writable : IsWritable s = search rules in
+    subst (λ (x : ℕ). (after : List ℕ) × HoldsMap (g.R.Rig.reads c.commit.new.rig) (g.R.Rig.images c.commit.new.rig (g.R.Rig.clock c.commit.new.rig)) c.commit.new.self
+    (with_story m (record { intervals = m.intervals; marks = x })) after)
+    (ap (λ d. with_mark c.args.slot d c.args.self.now.story.marked.0) (sym c.down_byte-byte.ensures) ∙ sym c.with_mark-self.ensures)
+    (held_on m s c.mark_bytes.result body writable (mark_fits m.n (story_of m) c.args.slot c.args.down c.requires.slot) (g.R.Rig.reads c.args.rig.now) images c.args.self.now.journal
+    (g.R.Rig.reads c.commit.new.rig) (g.R.Rig.images c.commit.new.rig (g.R.Rig.clock c.commit.new.rig)) c.commit.new.self c.in_ok-commit.ensures.ok text held)
+
+pub returns-clause-any_moment : goal.returns-clause-any_moment
+returns-clause-any_moment g c =
+    let images = g.R.Rig.images c.args.rig.now (g.R.Rig.clock c.args.rig.now) in
+    let m = map_of c.args.self.now in
+    let s = Mark c.args.slot (if c.args.down then 1 else 0) in
+    let body : c.mark_bytes.result ≡ step_bytes s = c.mark_bytes.ensures ∙ ap (λ d. step_bytes (Mark c.args.slot d)) c.down_byte-byte.ensures in
+    let writable : IsWritable s = search rules in
+    subst (λ slot. During g.R.Rig.clock g.R.Rig.images c.args.rig.now c.commit.new.rig (InSlot images slot (Steps (g.R.Rig.reads c.args.rig.now) images (journal_of c.args.self.now) m s)))
+    c.args.self.now.own_slot
+    (step_moments m s c.mark_bytes.result body writable (mark_fits m.n (story_of m) c.args.slot c.args.down c.requires.slot) g.R.Rig.clock g.R.Rig.images (g.R.Rig.reads c.args.rig.now) c.args.self.now.journal _
+    c.args.rig.now c.commit.new.rig c.commit.ensures.any_moment)

@@ -1,0 +1,6 @@
+use Rattle.std.proofs.Common.{◌∙◌, sym}
+use Rattle.pool_map.proofs.StoryLemmas.{last_is}
+use Rattle.pool_map.proofs.replay.last_of.Goals as goal
+
+pub returns : goal.returns
+returns c = c.copied.ensures ∙ c.last.ensures.value ∙ sym (last_is c.args.intervals.now)

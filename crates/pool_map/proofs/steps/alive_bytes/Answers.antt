@@ -1,0 +1,7 @@
+use Rattle.std.proofs.Common.{rules}
+use Rattle.shard_model.specs.StepBytes.{version_bytes}
+use Rattle.pool_map.proofs.steps.alive_bytes.Goals as goal
+
+pub returns : goal.returns
+unfolding version_bytes
+returns c = search rules

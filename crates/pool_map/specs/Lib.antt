@@ -1,0 +1,6 @@
+pub mod Faults
+pub mod Maps
+pub mod Meanings
+pub mod Pool
+pub mod StepReading
+pub mod Steps

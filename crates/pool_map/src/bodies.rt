@@ -1,0 +1,87 @@
+//! The map that the bodies of a text's records are.
+ghost use Rattle.std.specs.Prelude.{◌≡◌, ◌⊎◌, ◌≤◌, ◌<◌, ◌++◌, ◌∷◌, ℕ, List, IfOk, IfErr, Err, length, slice_index_or};
+ghost use Rattle.ec_code.specs.Profiles.{name_of};
+ghost use Rattle.ec_code.specs.Refusals.{IsCodeOf};
+ghost use Rattle.shard_model.specs.StepBytes.{IsCounted};
+ghost use Rattle.pool_map.specs.Maps.{PoolImage, Story as Meant, LeadAll, new_story, IsMapOf};
+ghost use Rattle.pool_map.specs.Meanings.{meant, image_of};
+ghost use Rattle.pool_map.specs.Steps.{step_bytes};
+ghost use Rattle.pool_map.specs.Steps as steps;
+
+use crate::MapFault;
+use crate::profiles::open_lines;
+use crate::reading::StepReader;
+use crate::step::Step;
+use crate::story::Story;
+use ec_code::Code;
+use ec_words::Bytes;
+use plugin_reg::Opened;
+use std::alloc::Global;
+
+/// The lines of a map's first step, and the bytes behind it.
+#[derive(Drop)]
+pub(crate) struct First<'a> {
+    pub lines: Bytes,
+    pub rest: &'a [u8],
+}
+
+/// The map's first step, which is its profile.
+fn read_first<'a>(alloc: Global, body: &'a [u8]) -> Result<First<'a>, MapFault>
+    ensures counted { IfOk result (λ first. IsCounted first.lines) }
+    ensures bytes { IfOk result (λ first. body.now ≡ step_bytes (steps.Profile first.lines) ++ first.rest.now) }
+    ensures only { IfOk result (λ first. (lines rest : List ℕ) → IsCounted lines → body.now ≡ step_bytes (steps.Profile lines) ++ rest
+        → (lines ≡ first.lines) × (rest ≡ first.rest.now)) }
+    ensures bad { result ≡ Err MapFault.BadMap → (lines rest : List ℕ) → IsCounted lines → body.now ≡ step_bytes (steps.Profile lines) ++ rest → ⊥ }
+    ensures plain { IfErr result (λ fault. (fault ≡ MapFault.BadMap) ⊎ (fault ≡ MapFault.NoMemory)) }
+{
+    let mut reader = StepReader::new(alloc, body);
+    match reader.step()? {
+        Step::Profile(lines) => Ok(First {
+            lines,
+            rest: reader.rest(),
+        }),
+        _ => Err(MapFault::BadMap),
+    }
+}
+
+/// The intervals and marks that the steps behind the profile make.
+fn read_story(alloc: Global, n: u8, rest: &[u8], more: &[Bytes]) -> Result<Story, MapFault>
+    requires { n ≤ 16 }
+    ensures n { IfOk result (λ story. story.n ≡ n) }
+    ensures ok { IfOk result (λ story. LeadAll n new_story (rest.now ∷ more.now) (meant story)) }
+    ensures bad { result ≡ Err MapFault.BadMap → (other : Meant) → LeadAll n new_story (rest.now ∷ more.now) other → ⊥ }
+    ensures plain { IfErr result (λ fault. (fault ≡ MapFault.BadMap) ⊎ (fault ≡ MapFault.NoMemory)) }
+{
+    let mut story = Story::new(alloc, n);
+    story.add_body(alloc, rest)?;
+    story.add_bodies(alloc, more)?;
+    Ok(story)
+}
+
+/// The map that some bodies are, and the box that is the code of its profile.
+pub(crate) fn read_map(
+    alloc: Global,
+    k: u8,
+    n: u8,
+    unit: u32,
+    bodies: &[Bytes],
+    codes: &mut [Box<dyn Code>],
+) -> Result<(Story, Opened), MapFault>
+    requires { (q : _) → (i : ℕ) × (i < length codes.old) × ((d : _) → plugin_name (slice_index_or codes.old i d) ≡ name_of q) }
+    ensures ok { IfOk result (λ read. IsMapOf k unit bodies.now (image_of read.1.profile read.0)) }
+    ensures n { IfOk result (λ read. read.0.n ≡ n) }
+    ensures bad { result ≡ Err MapFault.BadMap → (m : PoolImage) → m.n ≡ n → IsMapOf k unit bodies.now m → ⊥ }
+    ensures plain { IfErr result (λ fault. (fault ≡ MapFault.BadMap) ⊎ (fault ≡ MapFault.NoMemory)) }
+    ensures below { IfOk result (λ read. read.1.index < length codes.new) }
+    ensures made { IfOk result (λ read. (d : _) → IsCodeOf read.1.profile (meaning (slice_index_or codes.new read.1.index d))) }
+    ensures boxes { length codes.new ≡ length codes.old }
+    ensures kept { (j : ℕ) (d : _) → plugin_name (slice_index_or codes.new j d) ≡ plugin_name (slice_index_or codes.old j d) }
+{
+    if bodies.is_empty() {
+        return Err(MapFault::BadMap);
+    }
+    let first = read_first(alloc, bodies[0].as_slice())?;
+    let opened = open_lines(alloc, first.lines.as_slice(), k, n, unit, codes)?;
+    let story = read_story(alloc, n, first.rest, &bodies[1..])?;
+    Ok((story, opened))
+}

@@ -1,0 +1,31 @@
+//! The map of a pool: its profile, the intervals from its first epoch on, and which slots are marked as down, in the text
+//! of slot 16.
+//!
+//! Headline: at each instant of `begin`, `alive` and `mark` each image of the slot has the map of before, or the one with the
+//! step ([`PoolMap`], `any_moment`, `Steps`); `load` gives exactly the map of the text in use (`HoldsMap`), or says that there
+//! is no pool, or that the text is no map.
+//!
+//! The first record of a pool of k=2, m=1 has the steps Profile, Begin(1, all) and Alive(1, all, (0, 0)). docs/FORMAT.md has
+//! its bytes.
+#![tactic(auto)]
+
+mod bodies;
+mod fault;
+mod first;
+mod front;
+mod limits;
+mod loading;
+mod making;
+mod map;
+mod profiles;
+mod reading;
+mod replay;
+mod step;
+mod steps;
+mod story;
+mod text;
+mod work;
+
+pub use fault::MapFault;
+pub use limits::{BEGIN_ROOM, MAP_SLOT, MARK_ROOM};
+pub use map::PoolMap;

@@ -1,0 +1,92 @@
+//! A pool's map from its slot.
+ghost use Rattle.std.specs.Prelude.{◌≡◌, ◌≤◌, ◌<◌, ℕ, List, length, slice_index_or, Some, IfOk, IfErr, Ok, Err, IsTrue, true, false};
+ghost use Rattle.ec_code.specs.Profiles.{name_of};
+ghost use Rattle.ec_code.specs.Refusals.{IsCodeOf};
+ghost use Rattle.slot_journal.specs.InUse.{told_text};
+ghost use Rattle.slot_journal.specs.Journal.{IsSettledWhereTold, is_spent};
+ghost use Rattle.slot_journal.specs.Reading.{OnlyReads};
+ghost use Rattle.pool_map.specs.Faults.{HasMapCause};
+ghost use Rattle.pool_map.specs.Maps.{PoolImage, IsNoPool, IsMapText};
+ghost use Rattle.pool_map.specs.Pool.{journal_of, map_of, HoldsMap};
+
+use crate::MapFault;
+use crate::bodies::read_map;
+use crate::front::read_front;
+use crate::limits::MAP_SLOT;
+use crate::map::PoolMap;
+use crate::text::load_text;
+use ec_code::Code;
+use rig_disk::Rig;
+use slot_journal::{HEADER_LEN, texts_have_one_reading};
+use std::alloc::Global;
+
+impl PoolMap {
+    /// Reads the map from its slot, and makes a box the code of its profile; the box's number is answered too. `codes` has
+    /// a box of each plugin. After a refusal a box may be another code than before.
+    pub fn load<R: Rig>(
+        alloc: Global,
+        rig: &mut R,
+        codes: &mut [Box<dyn Code>],
+    ) -> Result<(PoolMap, usize), MapFault>
+        requires { (q : _) → (i : ℕ) × (i < length codes.old) × ((d : _) → plugin_name (slice_index_or codes.old i d) ≡ name_of q) }
+        ensures ok { IfOk result (λ read. (text : List ℕ) → told_text (R.reads rig.old 16) ≡ Some text
+            → HoldsMap (R.reads rig.new) (R.images rig.new (R.clock rig.new)) (journal_of read.0) (map_of read.0) text) }
+        ensures settled { IfOk result (λ read.
+            IsSettledWhereTold (R.reads rig.new) (R.images rig.new (R.clock rig.new)) (journal_of read.0)) }
+        ensures unspent { IfOk result (λ read. is_spent (journal_of read.0) ≡ false) }
+        ensures bad_map { result ≡ Err MapFault.BadMap → (text : List ℕ) → told_text (R.reads rig.old 16) ≡ Some text
+            → (24 ≤ length text) × ((m : PoolImage) → IsMapText text m → ⊥) }
+        ensures no_pool { result ≡ Err MapFault.NoPool → R.is_here rig.old 16 → (text : List ℕ)
+            → told_text (R.reads rig.old 16) ≡ Some text → IsNoPool text }
+        ensures nowhere { (R.is_here rig.old 16 → ⊥) → result ≡ Err MapFault.NoPool }
+        ensures long { IfOk result (λ read. (text : List ℕ) → told_text (R.reads rig.old 16) ≡ Some text → 24 ≤ length text) }
+        ensures plain { IfErr result (λ fault. (fault ≡ MapFault.Worn) → ⊥) }
+        ensures below { IfOk result (λ read. read.1 < length codes.new) }
+        ensures made { IfOk result (λ read. (d : _) → IsCodeOf (map_of read.0).profile (meaning (slice_index_or codes.new read.1 d))) }
+        ensures boxes { length codes.new ≡ length codes.old }
+        ensures names { (j : ℕ) (d : _) → plugin_name (slice_index_or codes.new j d) ≡ plugin_name (slice_index_or codes.old j d) }
+        ensures only_if_fault { HasMapCause (R.faults rig.old 16) (R.faults rig.new 16) result }
+        ensures kept { OnlyReads R.is_here R.reads R.said R.clock R.images R.faults R.syncs R.bytes_written R.bytes_read
+            16 0 2 rig.old rig.new }
+    {
+        texts_have_one_reading();
+        if !rig.here(MAP_SLOT) {
+            return Err(MapFault::NoPool);
+        }
+        let text = load_text(alloc, rig)?;
+        let numbers = text.numbers;
+        let (story, opened) = read_map(
+            alloc,
+            numbers.k,
+            numbers.n,
+            numbers.unit,
+            text.bodies.as_slice(),
+            codes,
+        )?;
+        let map = PoolMap {
+            journal: text.journal,
+            profile: opened.profile,
+            story,
+            began: false,
+        };
+        Ok((map, opened.index))
+    }
+
+    /// Whether there is a pool. All of the map's text is on the disk then.
+    pub fn there<R: Rig>(rig: &mut R) -> Result<bool, MapFault>
+        ensures yes { IfOk result (λ is. IsTrue is → (text : List ℕ) → told_text (R.reads rig.old 16) ≡ Some text → 24 ≤ length text) }
+        ensures no_pool { IfOk result (λ is. is ≡ false → R.is_here rig.old 16 → (text : List ℕ)
+            → told_text (R.reads rig.old 16) ≡ Some text → IsNoPool text) }
+        ensures nowhere { (R.is_here rig.old 16 → ⊥) → result ≡ Ok false }
+        ensures faults { IfErr result (λ fault. fault ≡ MapFault.Failed) }
+        ensures only_if_fault { HasMapCause (R.faults rig.old 16) (R.faults rig.new 16) result }
+        ensures kept { OnlyReads R.is_here R.reads R.said R.clock R.images R.faults R.syncs R.bytes_written R.bytes_read
+            16 0 1 rig.old rig.new }
+    {
+        if !rig.here(MAP_SLOT) {
+            return Ok(false);
+        }
+        let mut front = [0; HEADER_LEN];
+        Ok(read_front(rig, &mut front)?)
+    }
+}

@@ -1,0 +1,20 @@
+//! The map of a pool, as it is worked with.
+ghost use Rattle.std.specs.Prelude.{◌≡◌, ◌≤◌, true};
+ghost use Rattle.slot_journal.specs.Journal.{slot_of, room_of};
+
+use crate::story::Story;
+use ec_code::Profile;
+use slot_journal::Journal;
+
+/// The map of a pool: its profile, the intervals so far, and which slots are marked as down. It is used with the rig over
+/// which it was made or loaded, and after [`MapFault::Failed`](crate::MapFault::Failed) no more.
+#[derive(Drop)]
+pub struct PoolMap {
+    pub(crate) journal: Journal,
+    pub(crate) profile: Profile,
+    pub(crate) story: Story,
+    /// The last interval was begun by this value, and is not alive.
+    pub(crate) began: bool,
+    ghost own_slot: { slot_of journal ≡ 16 },
+    ghost has_room: { began ≡ true → 64 ≤ room_of journal },
+}

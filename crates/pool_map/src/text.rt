@@ -1,0 +1,99 @@
+//! The text of a map, as it is read from its slot.
+ghost use Rattle.std.specs.Prelude.{◌≡◌, ◌≢◌, ◌⊎◌, ◌≤◌, ◌<◌, ◌∷◌, ℕ, List, length, take, get_or, Some, Err, IfOk, IfErr, IsTrue, false};
+ghost use Rattle.rig_disk.specs.During.{During};
+ghost use Rattle.shard_model.specs.StepBytes.{IsWord};
+ghost use Rattle.slot_journal.specs.Header.{open_gate};
+ghost use Rattle.slot_journal.specs.InUse.{told_text};
+ghost use Rattle.slot_journal.specs.Journal.{Holds, IsSettledWhereTold, IsFresh};
+ghost use Rattle.slot_journal.specs.Reading.{OnlyReads};
+ghost use Rattle.slot_journal.specs.Text.{IsText};
+ghost use Rattle.pool_map.specs.Faults.{HasMapCause};
+ghost use Rattle.pool_map.specs.Maps.{map_head, IsNoPool};
+
+use crate::MapFault;
+use crate::front::read_front;
+use crate::limits::MAP_SLOT;
+use byteorder::{BigEndian, ByteOrder};
+use rig_disk::Rig;
+use slot_journal::{Bodies, HEADER_LEN, Header, Journal, Owner, bad_texts_have_one_place};
+use std::alloc::Global;
+
+/// The numbers that a header says.
+#[derive(Clone, Copy)]
+pub(crate) struct Numbers {
+    pub k: u8,
+    pub n: u8,
+    pub unit: u32,
+}
+
+/// A map's text as it was read.
+#[derive(Drop)]
+pub(crate) struct MapText {
+    pub journal: Journal,
+    pub bodies: Bodies,
+    pub numbers: Numbers,
+}
+
+/// Bytes 1 to 23 of a map's text.
+pub(crate) fn map_head(numbers: Numbers) -> [u8; 23]
+    ensures { result ≡ map_head numbers.k numbers.n numbers.unit }
+{
+    let header = Header {
+        owner: Owner::Map,
+        format: 1,
+        slot: MAP_SLOT,
+        k: numbers.k,
+        n: numbers.n,
+        unit: numbers.unit,
+        serial: 0,
+    };
+    header.encode()
+}
+
+/// The numbers in a header.
+fn numbers_of(front: &[u8; 24]) -> Numbers
+    ensures { (k n unit : ℕ) → IsWord unit → front.now ≡ open_gate ∷ map_head k n unit
+        → (k ≡ result.k) × ((n ≡ result.n) × (unit ≡ result.unit)) }
+{
+    Numbers {
+        k: front[10],
+        n: front[11],
+        unit: BigEndian::read_u32(&front[12..16]),
+    }
+}
+
+/// Reads the map's text in use.
+pub(crate) fn load_text<R: Rig>(alloc: Global, rig: &mut R) -> Result<MapText, MapFault>
+    requires here { R.is_here rig.old 16 }
+    ensures ok { IfOk result (λ read. (text : List ℕ) → told_text (R.reads rig.old 16) ≡ Some text
+        → Holds (R.reads rig.new) (R.images rig.new (R.clock rig.new)) read.journal
+        (map_head read.numbers.k read.numbers.n read.numbers.unit) read.bodies text) }
+    ensures numbers { IfOk result (λ read. (text : List ℕ) → told_text (R.reads rig.old 16) ≡ Some text
+        → (k n unit : ℕ) (bodies : List (List ℕ)) (place : ℕ) → IsWord unit → IsText (map_head k n unit) bodies place text
+        → (k ≡ read.numbers.k) × ((n ≡ read.numbers.n) × (unit ≡ read.numbers.unit))) }
+    ensures long { IfOk result (λ read. (text : List ℕ) → told_text (R.reads rig.old 16) ≡ Some text → 24 ≤ length text) }
+    ensures settled { IfOk result (λ read.
+        IsSettledWhereTold (R.reads rig.new) (R.images rig.new (R.clock rig.new)) read.journal) }
+    ensures fresh { IfOk result (λ read. IsFresh read.journal 16) }
+    ensures bad { result ≡ Err MapFault.BadMap → (text : List ℕ) → told_text (R.reads rig.old 16) ≡ Some text → (24 ≤ length text)
+        × ((k n unit : ℕ) (bodies : List (List ℕ)) (place : ℕ) → IsWord unit → IsText (map_head k n unit) bodies place text → ⊥) }
+    ensures no_pool { result ≡ Err MapFault.NoPool → (text : List ℕ) → told_text (R.reads rig.old 16) ≡ Some text → IsNoPool text }
+    ensures plain { IfErr result (λ fault. (fault ≡ MapFault.Worn) → ⊥) }
+    ensures only_if_fault { HasMapCause (R.faults rig.old 16) (R.faults rig.new 16) result }
+    ensures kept { OnlyReads R.is_here R.reads R.said R.clock R.images R.faults R.syncs R.bytes_written R.bytes_read
+        16 0 2 rig.old rig.new }
+{
+    bad_texts_have_one_place();
+    let mut front = [0; HEADER_LEN];
+    if !read_front(rig, &mut front)? {
+        return Err(MapFault::NoPool);
+    }
+    let numbers = numbers_of(&front);
+    let head = map_head(numbers);
+    let (journal, bodies) = Journal::load(alloc, rig, MAP_SLOT, &head)?;
+    Ok(MapText {
+        journal,
+        bodies,
+        numbers,
+    })
+}

@@ -1,0 +1,180 @@
+//! What is asked of a pool's map, and what is written to it.
+ghost use Rattle.std.specs.Prelude.{◌≡◌, ◌≤◌, ◌<◌, ◌⊎◌, ◌↔◌, ◌+◌, ◌^◌, ◌++◌, ◌∷◌, [], ℕ, List, true, false, IfOk, IfErr, OnOk, OnErr, Err, if◌then◌else◌};
+ghost use Rattle.rig_disk.specs.During.{During};
+ghost use Rattle.rig_disk.specs.Frame.{Spends, KeepsOthers};
+ghost use Rattle.slot_journal.specs.Journal.{IsSettledWhereTold, InSlot, is_spent, room_of};
+ghost use Rattle.pool_map.specs.Faults.{HasMapCause};
+ghost use Rattle.pool_map.specs.Maps.{fits, story_of, last_epoch, epoch_limit};
+ghost use Rattle.pool_map.specs.Pool.{journal_of, map_of, has_begun, HoldsMap, map_after, Steps, IsWorn};
+ghost use Rattle.pool_map.specs.Steps as steps;
+ghost use Rattle.ec_words.specs.Intervals.{Interval as Meant};
+
+use crate::map::PoolMap;
+use crate::replay::{last_epoch, with_mark};
+use crate::steps::{alive_bytes, begin_bytes, down_byte, mark_bytes};
+use crate::{BEGIN_ROOM, MARK_ROOM, MapFault};
+use ec_code::Profile;
+use ec_words::{Interval, Intervals, Mask, Version};
+use rig_disk::Rig;
+
+impl PoolMap {
+    /// The profile of the pool.
+    pub fn profile(&self) -> &Profile
+        ensures { result.now ≡ (map_of self.now).profile }
+    {
+        &self.profile
+    }
+
+    /// The intervals so far.
+    pub fn intervals(&self) -> &Intervals
+        ensures { result.now ≡ (map_of self.now).intervals }
+    {
+        &self.story.intervals
+    }
+
+    /// The slots that are marked as down.
+    pub fn marked(&self) -> Mask
+        ensures { result.0 ≡ (map_of self.now).marks }
+    {
+        self.story.marked
+    }
+
+    /// Begins an interval with these slots up, and answers its epoch.
+    pub fn begin<R: Rig>(&mut self, rig: &mut R, up: Mask) -> Result<u32, MapFault>
+        requires here { R.is_here rig.old 16 }
+        requires unspent { is_spent (journal_of self.old) ≡ false }
+        requires settled { IsSettledWhereTold (R.reads rig.old) (R.images rig.old (R.clock rig.old)) (journal_of self.old) }
+        requires below { up.0 < 2 ^ (map_of self.old).n }
+
+        ensures epoch { IfOk result (λ epoch. epoch ≡ last_epoch (map_of self.old).intervals + 1) }
+        ensures step { OnOk result (map_of self.new ≡ map_after (map_of self.old)
+            (steps.Begin (last_epoch (map_of self.old).intervals + 1) up.0)) }
+        ensures began { OnOk result (has_begun self.new ≡ true) }
+        ensures worn { (result ≡ Err MapFault.Worn) ↔ IsWorn self.old }
+        ensures faults { IfErr result (λ fault. (fault ≡ MapFault.Failed) ⊎ ((fault ≡ MapFault.Worn) ⊎ (fault ≡ MapFault.NoMemory))) }
+        ensures ok { OnOk result ((text : List ℕ)
+            → HoldsMap (R.reads rig.old) (R.images rig.old (R.clock rig.old)) (journal_of self.old) (map_of self.old) text
+            → (after : List ℕ) × HoldsMap (R.reads rig.new) (R.images rig.new (R.clock rig.new)) (journal_of self.new)
+            (map_of self.new) after) }
+        ensures settled { OnOk result
+            (IsSettledWhereTold (R.reads rig.new) (R.images rig.new (R.clock rig.new)) (journal_of self.new)) }
+        ensures unspent { OnOk result (is_spent (journal_of self.new) ≡ false) }
+        ensures unchanged { OnErr result (map_of self.new ≡ map_of self.old) }
+        ensures only_if_fault { HasMapCause (R.faults rig.old 16) (R.faults rig.new 16) result }
+        ensures any_moment { During R.clock R.images rig.old rig.new (InSlot (R.images rig.old (R.clock rig.old)) 16
+            (Steps (R.reads rig.old) (R.images rig.old (R.clock rig.old)) (journal_of self.old) (map_of self.old)
+            (steps.Begin (last_epoch (map_of self.old).intervals + 1) up.0))) }
+        ensures counts { Spends R.syncs R.bytes_written R.bytes_read 16 2 13 0 rig.old rig.new }
+        ensures kept { KeepsOthers R.is_here R.reads R.said R.faults R.syncs R.bytes_written R.bytes_read
+            16 0 rig.old rig.new }
+    {
+        let last = last_epoch(self.story.intervals.as_slice());
+        if last >= u32::MAX - 1 || self.journal.room() < BEGIN_ROOM {
+            return Err(MapFault::Worn);
+        }
+        let epoch = last + 1;
+        self.story.intervals.push(Interval {
+            epoch,
+            up,
+            alive: None,
+        })?;
+        match self.journal.commit(rig, &begin_bytes(epoch, up)) {
+            Ok(()) => {
+                self.began = true;
+                Ok(epoch)
+            }
+            Err(_) => {
+                take_back(&mut self.story.intervals);
+                Err(MapFault::Failed)
+            }
+        }
+    }
+
+    /// Records that the last interval, which this value began, is alive.
+    pub fn alive<R: Rig>(
+        &mut self,
+        rig: &mut R,
+        joined: Mask,
+        base: Version,
+    ) -> Result<(), MapFault>
+        requires here { R.is_here rig.old 16 }
+        requires unspent { is_spent (journal_of self.old) ≡ false }
+        requires settled { IsSettledWhereTold (R.reads rig.old) (R.images rig.old (R.clock rig.old)) (journal_of self.old) }
+        requires began { has_begun self.old ≡ true }
+        requires fits { fits (map_of self.old).n (story_of (map_of self.old))
+            (steps.Alive (last_epoch (map_of self.old).intervals) joined.0 base) ≡ true }
+
+        ensures ok { OnOk result ((text : List ℕ)
+            → HoldsMap (R.reads rig.old) (R.images rig.old (R.clock rig.old)) (journal_of self.old) (map_of self.old) text
+            → (after : List ℕ) × HoldsMap (R.reads rig.new) (R.images rig.new (R.clock rig.new)) (journal_of self.new)
+            (map_of self.new) after) }
+        ensures step { OnOk result (map_of self.new
+            ≡ map_after (map_of self.old) (steps.Alive (last_epoch (map_of self.old).intervals) joined.0 base)) }
+        ensures settled { OnOk result
+            (IsSettledWhereTold (R.reads rig.new) (R.images rig.new (R.clock rig.new)) (journal_of self.new)) }
+        ensures unspent { OnOk result (is_spent (journal_of self.new) ≡ false) }
+        ensures unchanged { OnErr result (map_of self.new ≡ map_of self.old) }
+        ensures faults { IfErr result (λ fault. fault ≡ MapFault.Failed) }
+        ensures only_if_fault { HasMapCause (R.faults rig.old 16) (R.faults rig.new 16) result }
+        ensures any_moment { During R.clock R.images rig.old rig.new (InSlot (R.images rig.old (R.clock rig.old)) 16
+            (Steps (R.reads rig.old) (R.images rig.old (R.clock rig.old)) (journal_of self.old) (map_of self.old)
+            (steps.Alive (last_epoch (map_of self.old).intervals) joined.0 base))) }
+        ensures counts { Spends R.syncs R.bytes_written R.bytes_read 16 2 25 0 rig.old rig.new }
+        ensures kept { KeepsOthers R.is_here R.reads R.said R.faults R.syncs R.bytes_written R.bytes_read
+            16 0 rig.old rig.new }
+    {
+        let epoch = last_epoch(self.story.intervals.as_slice());
+        self.journal
+            .commit(rig, &alive_bytes(epoch, joined, &base))?;
+        self.story.intervals.set_last_alive(joined, base);
+        self.began = false;
+        Ok(())
+    }
+
+    /// Marks a slot as down, or takes the mark away.
+    pub fn mark<R: Rig>(&mut self, rig: &mut R, slot: u8, down: bool) -> Result<(), MapFault>
+        requires here { R.is_here rig.old 16 }
+        requires unspent { is_spent (journal_of self.old) ≡ false }
+        requires settled { IsSettledWhereTold (R.reads rig.old) (R.images rig.old (R.clock rig.old)) (journal_of self.old) }
+        requires slot { slot < (map_of self.old).n }
+
+        ensures step { OnOk result (map_of self.new ≡ map_after (map_of self.old)
+            (steps.Mark slot (if down then 1 else 0))) }
+        ensures began { has_begun self.new ≡ has_begun self.old }
+        ensures worn { (result ≡ Err MapFault.Worn) ↔ (room_of (journal_of self.old) < 2 ^ 26) }
+        ensures faults { IfErr result (λ fault. (fault ≡ MapFault.Failed) ⊎ (fault ≡ MapFault.Worn)) }
+        ensures ok { OnOk result ((text : List ℕ)
+            → HoldsMap (R.reads rig.old) (R.images rig.old (R.clock rig.old)) (journal_of self.old) (map_of self.old) text
+            → (after : List ℕ) × HoldsMap (R.reads rig.new) (R.images rig.new (R.clock rig.new)) (journal_of self.new)
+            (map_of self.new) after) }
+        ensures settled { OnOk result
+            (IsSettledWhereTold (R.reads rig.new) (R.images rig.new (R.clock rig.new)) (journal_of self.new)) }
+        ensures unspent { OnOk result (is_spent (journal_of self.new) ≡ false) }
+        ensures unchanged { OnErr result (map_of self.new ≡ map_of self.old) }
+        ensures only_if_fault { HasMapCause (R.faults rig.old 16) (R.faults rig.new 16) result }
+        ensures any_moment { During R.clock R.images rig.old rig.new (InSlot (R.images rig.old (R.clock rig.old)) 16
+            (Steps (R.reads rig.old) (R.images rig.old (R.clock rig.old)) (journal_of self.old) (map_of self.old)
+            (steps.Mark slot (if down then 1 else 0)))) }
+        ensures counts { Spends R.syncs R.bytes_written R.bytes_read 16 2 9 0 rig.old rig.new }
+        ensures kept { KeepsOthers R.is_here R.reads R.said R.faults R.syncs R.bytes_written R.bytes_read
+            16 0 rig.old rig.new }
+    {
+        if self.journal.room() < MARK_ROOM {
+            return Err(MapFault::Worn);
+        }
+        let byte = down_byte(down);
+        self.journal.commit(rig, &mark_bytes(slot, byte))?;
+        self.story.marked = with_mark(slot, byte, self.story.marked);
+        Ok(())
+    }
+}
+
+/// Takes the last interval away.
+fn take_back(intervals: &mut Intervals)
+    ensures { (front : List Meant) (last : Meant) → intervals.old ≡ front ++ last ∷ [] → intervals.new ≡ front }
+{
+    intervals.pop();
+}
+
+#[cfg(test)]
+mod tests;

@@ -1,0 +1,38 @@
+-- A text is steps in one way.
+use Rattle.std.proofs.Common.{◌≡◌, ◌<◌, ℕ, List, [], ◌∷◌, ◌++◌, ◌-◌, length, map, get_or, sym, ap, ◌∙◌, refl, Option, Some, arith}
+use Rattle.std.specs.List.{AllByRecursion}
+use Rattle.shard_model.specs.Steps.{Step}
+use Rattle.shard_model.specs.StepBytes.{step_bytes, steps_bytes, IsWritable, AreSteps}
+use Rattle.shard_model.specs.StepReading.{read_step}
+use Rattle.shard_model.proofs.ReadingLemmas.{not_read, same_read}
+use Rattle.shard_model.proofs.StepReadingLemmas.{step_reading}
+
+read_front : (x : Step) (rest : List ℕ) → IsWritable x → read_step (step_bytes x ++ rest) ≡ Some (x, rest)
+read_front x rest has = step_reading.spelled x rest has
+
+pub same_steps : (xs ys : List Step) → AllByRecursion IsWritable xs → AllByRecursion IsWritable ys → steps_bytes xs ≡ steps_bytes ys → xs ≡ ys
+same_steps [] [] p q e = refl
+same_steps [] (y ∷ ys) p q e = absurd (not_read y (steps_bytes ys) (ap read_step e ∙ read_front y (steps_bytes ys) q.0))
+same_steps (x ∷ xs) [] p q e = absurd (not_read x (steps_bytes xs) (ap read_step (sym e) ∙ read_front x (steps_bytes xs) p.0))
+same_steps (x ∷ xs) (y ∷ ys) p q e =
+    let both = sym (read_front x (steps_bytes xs) p.0) ∙ ap read_step e ∙ read_front y (steps_bytes ys) q.0 in
+    let same = same_read x y (steps_bytes xs) (steps_bytes ys) both in
+    ap (λ z. z ∷ xs) same.0 ∙ ap (λ zs. y ∷ zs) (same_steps xs ys p.1 q.1 same.1)
+
+pub one_reading : (text : List ℕ) (xs ys : List Step) → AreSteps text xs → AreSteps text ys → xs ≡ ys
+one_reading text xs ys p q = same_steps xs ys p.0 q.0 (sym p.1 ∙ q.1)
+
+some_same : {X : Type 0} (a b : X) → ◌≡◌ {A = Option X} (Some a) (Some b) → a ≡ b
+some_same a b e = cc
+
+head_same : {X : Type 0} (a b : X) (cs ds : List X) → a ∷ cs ≡ b ∷ ds → a ≡ b
+head_same a b cs ds e = cc
+
+-- of a list of one the last is that one
+pub last_of : {X Y : Type 0} (f : X → Y) (items : List X) (n : ℕ) (copy : X) (y : Y) → map f items ≡ y ∷ [] → n ≡ length items
+    → (0 < n → ◌≡◌ {A = Option X} (Some copy) (Some (get_or items (n - 1) copy))) → f copy ≡ y
+last_of f [] n copy y e long last = absurd (omega (arith, ap length e))
+last_of f (x ∷ []) n copy y e long last =
+    let found = some_same copy (get_or (x ∷ []) (n - 1) copy) (last (omega (arith, long))) in
+    ap f (found ∙ ap (λ m. get_or (x ∷ []) (m - 1) copy) long) ∙ head_same (f x) y [] [] e
+last_of f (x ∷ z ∷ rest) n copy y e long last = absurd (omega (arith, ap length e))

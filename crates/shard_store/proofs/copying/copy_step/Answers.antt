@@ -1,0 +1,14 @@
+use Rattle.std.proofs.Common.{◌≡◌, ◌∷◌, [], ap, ◌∙◌, map, length}
+use Rattle.shard_model.specs.StepBytes.{steps_bytes}
+use Rattle.shard_state.specs.StepMeanings.{step_of}
+use Rattle.std.specs.Vec.{vec_len}
+use Rattle.shard_store.proofs.ReadingLemmas.{one_reading, last_of}
+use Rattle.shard_store.proofs.copying.copy_step.Goals as goal
+
+pub returns-in-Some-clause-copy : goal.returns-in-Some-clause-copy
+returns-in-Some-clause-copy c =
+    let step = step_of c.args.step.now in
+    let text : c.as_slice.result.now ≡ steps_bytes (step ∷ []) = c.as_slice.ensures ∙ c.in_ok-text.ensures ∙ ap (λ x. steps_bytes (map step_of x)) c.from_ref.ensures.value in
+    let one = one_reading c.as_slice.result.now c.in-Ok.steps (step ∷ []) c.in-Ok.ensures.value ((c.has_its_place.ensures, tt), text) in
+    let long : vec_len c.into_vec.result ≡ length c.into_vec.result.items = c.into_vec.result.ok.0 in
+    last_of step_of c.into_vec.result.items (vec_len c.into_vec.result) c.in-Some.copy step (c.into_vec.ensures ∙ one) long (c.in-Some.ensures.value c.in-Some.copy)

@@ -1,0 +1,145 @@
+//! Copies of steps.
+ghost use Rattle.std.specs.Prelude.{◌≡◌, ◌<◌, IfOk};
+ghost use Rattle.std.specs.List.{AllByRecursion};
+ghost use Rattle.shard_model.specs.StepBytes.{step_bytes, HasWords, IsName, IsWord, IsWritable, HasShortLists};
+ghost use Rattle.shard_state.specs.StepMeanings.{step_of};
+
+use ec_words::{Bytes, Name, NoMemory, Version};
+use shard_state::{Pairs, Step, decode_steps, encode_steps};
+use std::alloc::Global;
+use std::slice;
+
+/// A copy of a step, and its bytes.
+pub(crate) fn copy_step(alloc: Global, step: &Step) -> Result<(Step, Bytes), NoMemory>
+    requires { HasShortLists (step_of step.now) }
+    ensures copy { IfOk result (λ copy. step_of copy.0 ≡ step_of step.now) }
+    ensures bytes { IfOk result (λ copy. copy.1 ≡ step_bytes (step_of step.now)) }
+    ensures writable { IfOk result (λ copy. IsWritable (step_of step.now)) }
+{
+    has_its_place(step);
+    let text = encode_steps(alloc, slice::from_ref(step))?;
+    // The text is that of one step, so only memory can be wanting.
+    match decode_steps(alloc, text.as_slice()) {
+        Err(_) => Err(NoMemory),
+        Ok(steps) => match steps.into_vec().pop() {
+            None => Err(NoMemory),
+            Some(copy) => Ok((copy, text)),
+        },
+    }
+}
+
+/// All parts of a step have their place in the bytes. It does nothing.
+fn has_its_place(step: &Step)
+    requires { HasShortLists (step_of step.now) }
+    ensures { IsWritable (step_of step.now) }
+{
+    match step {
+        Step::Write {
+            version,
+            prior,
+            name,
+            fresh,
+            size,
+            at,
+            ..
+        } => {
+            have_their_place(version, prior, name);
+            is_a_byte(*fresh);
+            is_a_word(*size);
+            is_a_word(*at);
+        }
+        Step::Replace {
+            version,
+            prior,
+            name,
+            size,
+            ..
+        } => {
+            have_their_place(version, prior, name);
+            is_a_word(*size);
+        }
+        Step::Remove {
+            version,
+            prior,
+            name,
+        } => have_their_place(version, prior, name),
+        Step::SetAttr {
+            version,
+            prior,
+            name,
+            attr,
+            ..
+        } => {
+            have_their_place(version, prior, name);
+            is_a_name(attr);
+        }
+        Step::RemoveAttr {
+            version,
+            prior,
+            name,
+            attr,
+        } => {
+            have_their_place(version, prior, name);
+            is_a_name(attr);
+        }
+        Step::Back(version) => is_a_version(version),
+        Step::Started(epoch) => is_a_word(*epoch),
+        Step::Firm(version) => is_a_version(version),
+        Step::Trim(version) => is_a_version(version),
+        Step::Partial => {}
+        Step::Put {
+            name,
+            size,
+            attrs,
+            ..
+        } => {
+            is_a_name(name);
+            is_a_word(*size);
+            have_names(attrs);
+        }
+        Step::Drop(name) => is_a_name(name),
+        Step::Clear => {}
+        Step::Reset(version, epoch) => {
+            is_a_version(version);
+            is_a_word(*epoch);
+        }
+    }
+}
+
+fn have_their_place(version: &Version, prior: &Version, name: &Name)
+    ensures { HasWords version.now × (HasWords prior.now × IsName name.now) }
+{
+    is_a_version(version);
+    is_a_version(prior);
+    is_a_name(name);
+}
+
+fn is_a_byte(n: u8)
+    ensures { n < 256 }
+{}
+
+fn is_a_word(n: u32)
+    ensures { IsWord n }
+{}
+
+fn is_a_version(version: &Version)
+    ensures { HasWords version.now }
+{
+    let _epoch = version.epoch;
+    let _seq = version.seq;
+}
+
+fn is_a_name(name: &Name)
+    ensures { IsName name.now }
+{
+    let _text = name.as_slice();
+}
+
+fn have_names(attrs: &Pairs)
+    ensures { AllByRecursion (λ attr. IsName attr.0) attrs.now }
+{
+    let attrs = attrs.as_slice();
+    for i in 0..attrs.len() {
+        is_a_name(&attrs[i].0);
+    }
+}

@@ -1,0 +1,139 @@
+//! The stores of a pool's slots, and the bytes of their objects.
+ghost use Rattle.std.specs.Prelude.{◌≡◌, ◌<◌, ◌+◌, ◌-◌, ◌^◌, ℕ, length, min, Some, None, IfErr, IfSome, OnOk, OnErr};
+ghost use Rattle.std.specs.Option.{option_copied};
+ghost use Rattle.shard_store.specs.Told.{IsAccepted};
+ghost use Rattle.shard_store.specs.Ranges.{IsRange, object_bytes};
+ghost use Rattle.shard_store.specs.Stored.{told_in};
+
+use crate::Store;
+use ec_words::Name;
+use rig_disk::Rig;
+use thiserror::Error;
+
+/// Why bytes are not fetched.
+#[derive(Clone, Copy, Debug, PartialEq, Eq, Error)]
+pub enum FetchFault {
+    /// There is no such shard, name or range.
+    #[error("no such bytes")]
+    NoSuch,
+    /// A call of the rig failed, and the slot's count of faults rose.
+    #[error("failed")]
+    Failed,
+}
+
+/// A store, or none, for each slot below 16, and how many bytes were fetched on each of them.
+#[derive(Drop)]
+pub struct Shelf {
+    stores: [Option<Store>; 16],
+    fetched: [u64; 16],
+}
+
+impl Shelf {
+    ghost use Rattle.shard_store.specs.Shelves.{store_at, fetched_on, KeepsStores, Counts};
+    ghost use Rattle.shard_store.specs.Stored.{slot_in};
+    ghost use Rattle.shard_store.specs.Ranges.{range_of};
+    ghost use Rattle.shard_store.specs.declared.shelf.FetchFault.TheVariants.{NoSuch};
+
+    /// No stores.
+    pub fn new() -> Shelf
+        ensures stores { (slot : ℕ) → store_at result slot ≡ None }
+        ensures fetched { (slot : ℕ) → fetched_on result slot ≡ 0 }
+    {
+        Shelf {
+            stores: [
+                None, None, None, None, None, None, None, None, None, None, None, None, None, None,
+                None, None,
+            ],
+            fetched: [0; 16],
+        }
+    }
+
+    /// A slot gets a store, in the place of one that it may have.
+    pub fn put(&mut self, slot: u8, store: Store)
+        requires slot { slot < 16 }
+        requires own { slot_in store ≡ slot }
+        ensures value { store_at self.new slot ≡ Some store }
+        ensures others { KeepsStores self.old self.new slot }
+    {
+        self.stores[slot as usize] = Some(store);
+    }
+
+    /// Drops a slot's store.
+    pub fn drop_slot(&mut self, slot: u8)
+        requires { slot < 16 }
+        ensures value { store_at self.new slot ≡ None }
+        ensures others { KeepsStores self.old self.new slot }
+    {
+        self.stores[slot as usize] = None;
+    }
+
+    /// A slot's store. `None` exactly where none was put there since it was last dropped.
+    pub fn get(&self, slot: u8) -> Option<&Store>
+        requires { slot < 16 }
+        ensures { option_copied result ≡ store_at self.now slot }
+    {
+        self.stores[slot as usize].as_ref()
+    }
+
+    /// How many bytes were fetched on a slot; the count stands still at the largest number of a word.
+    pub fn fetched(&self, slot: u8) -> u64
+        requires { slot < 16 }
+        ensures { result ≡ fetched_on self.now slot }
+    {
+        self.fetched[slot as usize]
+    }
+
+    /// Fills `into` with the bytes of an object of a slot's shard from `at` on, and counts them.
+    pub fn fetch<R: Rig>(
+        &mut self,
+        _rig: &mut R,
+        slot: u8,
+        name: &Name,
+        at: u32,
+        into: &mut [u8],
+    ) -> Result<(), FetchFault>
+        requires slot { slot < 16 }
+        requires accepted { IfSome (store_at self.old slot) (λ store. IsAccepted (told_in store)) }
+        ensures ok { OnOk result (range_of (object_bytes (store_at self.old slot) name.now) at (length into.old) ≡ Some into.new) }
+        ensures no_such { OnErr result (range_of (object_bytes (store_at self.old slot) name.now) at (length into.old) ≡ None) }
+        ensures faults { IfErr result (λ fault. fault ≡ NoSuch) }
+        ensures counted { OnOk result (fetched_on self.new slot ≡ min (fetched_on self.old slot + length into.old) (2 ^ 64 - 1)) }
+        ensures others { Counts self.old self.new slot }
+        ensures unchanged { OnErr result ((self.new ≡ self.old) × (into.new ≡ into.old)) }
+        ensures rig { _rig.new ≡ _rig.old }
+    {
+        match &self.stores[slot as usize] {
+            None => return Err(FetchFault::NoSuch),
+            Some(store) => {
+                if !copy_object(store, name, at, into) {
+                    return Err(FetchFault::NoSuch);
+                }
+            }
+        }
+        let at = slot as usize;
+        self.fetched[at] = self.fetched[at].saturating_add(into.len() as u64);
+        Ok(())
+    }
+}
+
+/// Fills `into` with the bytes of an object from `at` on, or leaves it where there are not so many.
+fn copy_object(store: &Store, name: &Name, at: u32, into: &mut [u8]) -> bool
+    requires { IsAccepted (told_in store.now) }
+    ensures { IsRange (object_bytes (Some store.now) name.now) at into.old into.new result }
+{
+    match store.state().object(name) {
+        None => false,
+        Some(held) => copy_range(held.bytes.as_slice(), at as usize, into),
+    }
+}
+
+/// Fills `into` with the bytes from `at` on, or leaves it where there are not so many.
+fn copy_range(bytes: &[u8], at: usize, into: &mut [u8]) -> bool
+    ensures { IsRange (Some bytes.now) at into.old into.new result }
+{
+    if at > bytes.len() || into.len() > bytes.len() - at {
+        return false;
+    }
+    into.copy_from_slice(&bytes[at..at + into.len()]);
+    true
+}
