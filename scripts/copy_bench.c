@@ -4,17 +4,10 @@
        copy_bench SIZE NAME .. -- NAME ..
 
    reads the files before the -- and writes SIZE bytes of what was read into each of those behind it. */
-#include <fcntl.h>
-#include <stdio.h>
+#include "whole_files.h"
 #include <stdlib.h>
 #include <string.h>
 #include <sys/stat.h>
-#include <unistd.h>
-
-static int fail(const char *name) {
-    perror(name);
-    return 1;
-}
 
 static char *whole;
 static size_t held;
@@ -35,17 +28,6 @@ static int read_whole(const char *name) {
     return close(file) == 0 ? 0 : fail(name);
 }
 
-static int write_whole(const char *name, size_t size) {
-    int file = open(name, O_WRONLY | O_CREAT | O_TRUNC, 0666);
-    if (file < 0) return fail(name);
-    for (size_t at = 0; at < size;) {
-        ssize_t count = write(file, whole + at, size - at);
-        if (count <= 0) return fail(name);
-        at += (size_t)count;
-    }
-    return close(file) == 0 ? 0 : fail(name);
-}
-
 int main(int count, char **words) {
     if (count < 2) return 2;
     size_t size = strtoul(words[1], NULL, 10);
@@ -54,6 +36,6 @@ int main(int count, char **words) {
         if (read_whole(words[at]) != 0) return 1;
     if (size > held) return 2;
     for (at++; at < count; at++)
-        if (write_whole(words[at], size) != 0) return 1;
+        if (write_whole(words[at], whole, size) != 0) return 1;
     return 0;
 }

@@ -5,22 +5,15 @@
        encode_model NAME
 
    reads NAME, whose length is that of whole stripes, and writes NAME.0 to NAME.5. */
-#include <fcntl.h>
+#include "whole_files.h"
 #include <isa-l.h>
-#include <stdio.h>
 #include <stdlib.h>
 #include <string.h>
 #include <sys/stat.h>
-#include <unistd.h>
 
 enum { UNIT = 4096, DATA = 4, CODING = 2 };
 
 static unsigned char tables[32 * DATA * CODING];
-
-static int fail(const char *name) {
-    perror(name);
-    return 1;
-}
 
 static void make_unit(int position, unsigned char *stripe, unsigned char *unit) {
     unsigned char *from[DATA];
@@ -30,17 +23,6 @@ static void make_unit(int position, unsigned char *stripe, unsigned char *unit) 
     }
     for (int j = 0; j < DATA; j++) from[j] = stripe + j * UNIT;
     ec_encode_data_sse(UNIT, DATA, 1, tables + (position - DATA) * 32 * DATA, from, &unit);
-}
-
-static int write_whole(const char *name, const unsigned char *bytes, size_t size) {
-    int file = open(name, O_WRONLY | O_CREAT | O_TRUNC, 0666);
-    if (file < 0) return fail(name);
-    for (size_t at = 0; at < size;) {
-        ssize_t count = write(file, bytes + at, size - at);
-        if (count <= 0) return fail(name);
-        at += (size_t)count;
-    }
-    return close(file) == 0 ? 0 : fail(name);
 }
 
 int main(int count, char **words) {

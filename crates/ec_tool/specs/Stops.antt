@@ -5,8 +5,6 @@ use Rattle.ec_tool.specs.declared.stop.Stop.{Stop}
 use Rattle.ec_tool.specs.declared.stop.Stop.TheVariants.{Usage, Profile, Missing, Failed, NotDecided, Lengths, TooLong, NoMemory}
 use Rattle.plugin_reg.specs.declared.reading.RegFault.{RegFault}
 use Rattle.plugin_reg.specs.declared.reading.RegFault.TheVariants as reg
-use Rattle.stripe_map.specs.declared.decoding.DecodeFault.{DecodeFault}
-use Rattle.stripe_map.specs.declared.decoding.DecodeFault.TheVariants as fault
 use Rattle.ec_tool.specs.Jobs.{IsRefusedJob}
 use Rattle.ec_tool.specs.Words.{Job}
 use Rattle.ec_tool.specs.Texts.{usage_line, missing_line, failed_line, not_decided_line, lengths_line, too_long_line}
@@ -51,12 +49,6 @@ abbrev pub StopsByJob : Job → Stop → Type 0
 StopsByJob job (Profile f) = IsRefusedJob job f
 StopsByJob job NoMemory = ⊤
 StopsByJob job _ = ⊥
-
--- the reason to stop where chunks give no object
-abbrev pub stop_of_decoding : DecodeFault → Stop
-stop_of_decoding fault.NotDecided = NotDecided
-stop_of_decoding fault.Lengths = Lengths
-stop_of_decoding fault.NoMemory = NoMemory
 
 -- the reason to stop where a profile can't be opened
 abbrev pub stop_of_registry : RegFault → Stop

@@ -1,6 +1,6 @@
 //! The status and the line of each reason to stop.
 ghost use Rattle.std.specs.Prelude.{◌≡◌, IfOk};
-ghost use Rattle.ec_tool.specs.Stops.{status_of, line_of, stop_of_decoding, stop_of_registry};
+ghost use Rattle.ec_tool.specs.Stops.{status_of, line_of, stop_of_registry};
 ghost use Rattle.ec_tool.specs.Texts.{line_with};
 
 use crate::stop::Stop;
@@ -8,7 +8,6 @@ use crate::texts::{LENGTHS, NOT_DECIDED, USAGE};
 use ec_words::{Bytes, NoMemory};
 use plugin_reg::{RegFault, print_fault};
 use std::alloc::Global;
-use stripe_map::DecodeFault;
 
 impl Stop {
     /// The exit status.
@@ -51,18 +50,6 @@ impl From<RegFault> for Stop {
         match fault {
             RegFault::Profile(fault) => Stop::Profile(fault),
             RegFault::NoMemory => Stop::NoMemory,
-        }
-    }
-}
-
-impl From<DecodeFault> for Stop {
-    ghost from_gives = { λ fault stop. stop ≡ stop_of_decoding fault };
-
-    fn from(fault: DecodeFault) -> Stop {
-        match fault {
-            DecodeFault::NotDecided => Stop::NotDecided,
-            DecodeFault::Lengths => Stop::Lengths,
-            DecodeFault::NoMemory => Stop::NoMemory,
         }
     }
 }
