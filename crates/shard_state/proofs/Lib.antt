@@ -1,5 +1,6 @@
 pub mod AscendLemmas
 pub mod AttrLemmas
+pub mod CopyLemmas
 pub mod DecodingLemmas
 pub mod EncodingLemmas
 pub mod HoldLemmas

@@ -1,3 +1,4 @@
+pub mod Copies
 pub mod Doing
 pub mod EntryMeanings
 pub mod Faults

@@ -247,6 +247,13 @@ impl Spare {
         let list = Vec::with_capacity(alloc, n)?;
         Ok(Spare { list })
     }
+
+    /// Room for as many at least.
+    pub fn copy(&self, alloc: Global) -> Result<Spare, NoMemory>
+        ensures { IfOk result (λ copy. self.now ≤ copy) }
+    {
+        Spare::of(alloc, self.list.capacity())
+    }
 }
 
 /// Where a name stands or would stand, and whether it is there.

@@ -1,10 +1,11 @@
 //! What a shard holds of an object.
-ghost use Rattle.std.specs.Prelude.{◌≡◌, min};
+ghost use Rattle.std.specs.Prelude.{◌≡◌, min, IfOk};
 ghost use Rattle.shard_model.specs.Listings.{object_usage};
 ghost use Rattle.shard_state.specs.Tallies.{most};
 
 use crate::attrs::Attrs;
-use ec_words::Bytes;
+use ec_words::{Bytes, NoMemory};
+use std::alloc::Global;
 use std::marker::Model;
 
 /// An object in a shard: the bytes of its position, the size of the whole object, and its attributes.
@@ -31,5 +32,18 @@ impl Held {
         ensures { result ≡ min (object_usage self.now) most }
     {
         self.attrs.usage().saturating_add(u64::from(self.size))
+    }
+
+    /// An equal object.
+    pub(crate) fn copy(&self, alloc: Global) -> Result<Held, NoMemory>
+        ensures { IfOk result (λ copy. copy ≡ self.now) }
+    {
+        let bytes = Bytes::from_slice(alloc, self.bytes.as_slice())?;
+        let attrs = self.attrs.copy(alloc)?;
+        Ok(Held {
+            bytes,
+            size: self.size,
+            attrs,
+        })
     }
 }

@@ -11,6 +11,7 @@
 
 mod attrs;
 mod change;
+mod copying;
 mod decoding;
 mod encoding;
 mod entry;

@@ -1,7 +1,7 @@
 //! Objects by name, with places that may be empty.
 //!
 //! An object that is removed leaves its place empty, so that putting it back takes no memory.
-ghost use Rattle.std.specs.Prelude.{◌≡◌, OnOk, OnErr, None, is_some, IsSome, min};
+ghost use Rattle.std.specs.Prelude.{◌≡◌, OnOk, OnErr, IfOk, None, is_some, IsSome, min};
 ghost use Rattle.std.specs.Option.{option_copied};
 ghost use Rattle.std.specs.FinMap as map;
 ghost use Rattle.std.specs.Range.Bound.{bound_map};
@@ -9,6 +9,7 @@ ghost use Rattle.shard_model.specs.Listings.{next_name, usage};
 ghost use Rattle.shard_state.specs.Places.{joined, inside, IsSwept};
 ghost use Rattle.shard_state.specs.Tallies.{most, start_after};
 
+use crate::copying::copy_place;
 use crate::held::Held;
 use crate::tally::Tally;
 use ec_words::{Name, NoMemory};
@@ -52,6 +53,22 @@ impl Places {
             slots: BTreeMap::new(alloc),
             tally: Tally::none(),
         }
+    }
+
+    /// Equal places.
+    pub fn copy(&self, alloc: Global) -> Result<Places, NoMemory>
+        ensures { IfOk result (λ copy. copy ≡ self.now) }
+    {
+        let mut slots = BTreeMap::new(alloc);
+        for (name, place) in self.slots.iter() {
+            let name = name.copy(alloc)?;
+            let place = copy_place(alloc, place)?;
+            slots.insert(name, place)?;
+        }
+        Ok(Places {
+            slots,
+            tally: self.tally,
+        })
     }
 
     /// What lies in the place of a name.

@@ -22,6 +22,7 @@ ghost use Rattle.shard_state.specs.StepMeanings.{step_of};
 ghost use Rattle.shard_state.specs.Ways.{UndoesNewest, GivesThePast};
 
 use crate::attrs::Attrs;
+use crate::copying::copy_log;
 use crate::entry::{Entry, Kind, Logged, Undo};
 use crate::fault::{StepFault, UndoFault};
 use crate::fit::{fits_put, fits_remove_attr, fits_replace, fits_set_attr, fits_write};
@@ -82,6 +83,25 @@ impl ShardState {
             les: 0,
             partial: false,
         }
+    }
+
+    /// An equal state.
+    pub fn copy(&self, alloc: Global) -> Result<ShardState, NoMemory>
+        ensures { IfOk result (λ copy. copy ≡ self.now) }
+    {
+        let places = self.places.copy(alloc)?;
+        let log = copy_log(alloc, &self.log)?;
+        Ok(ShardState {
+            alloc,
+            geometry: self.geometry,
+            places,
+            log,
+            tail: self.tail,
+            firm: self.firm,
+            head: self.head,
+            les: self.les,
+            partial: self.partial,
+        })
     }
 
     /// The geometry that the shard was made with.
@@ -254,7 +274,7 @@ impl ShardState {
     }
 
     /// Whether a step may come now.
-    fn fits(&self, step: &Step) -> bool
+    pub fn fits(&self, step: &Step) -> bool
         ensures { result ≡ fits self.now.geometry self.now.state (step_of step.now) }
     {
         match step {

@@ -343,3 +343,30 @@ fn text_of<'a>(name: Option<&'a Name>) -> Option<&'a [u8]> {
         None => None,
     }
 }
+
+// A copy goes its own way: what is done to the first is not done to it, and it takes its entries back.
+#[test]
+fn a_copy_is_equal_and_goes_its_own_way(rt: HostRuntime) -> Result<(), Fail> {
+    let alloc = rt.alloc();
+    let a = Name::read(alloc, b"a")?;
+    let mut state = ShardState::fresh(alloc, Geometry { k: 2, unit: 4 });
+    state.apply(&write(alloc, 0, 1, 0, 1)?)?;
+    state.apply(&write(alloc, 1, 0, 4, 2)?)?;
+    let mut copy = state.copy(alloc)?;
+    state.apply(&write(alloc, 2, 0, 0, 3)?)?;
+    assert_eq!(rt; copy.log_len(), 2);
+    assert_eq!(rt; copy.count(), 1);
+    match copy.object(&a) {
+        None => assert!(rt; false, "no object"),
+        Some(held) => assert_eq!(rt; held.bytes.as_slice(), [1, 1, 1, 1, 2, 2, 2, 2].as_slice()),
+    }
+    copy.apply(&Step::Back(version(1)))?;
+    match copy.object(&a) {
+        None => assert!(rt; false, "no object"),
+        Some(held) => assert_eq!(rt; held.bytes.as_slice(), [1, 1, 1, 1, 0, 0, 0, 0].as_slice()),
+    }
+    copy.apply(&Step::Back(version(0)))?;
+    assert_eq!(rt; copy.count(), 0);
+    assert_eq!(rt; state.log_len(), 3);
+    Ok(())
+}
