@@ -1,7 +1,7 @@
 pub mod StoryLemmas
 pub mod ReadingLemmas
-pub mod InnerLemmas
 pub mod StoreLemmas
 pub mod LoadLemmas
 pub mod MakeLemmas
 pub mod LawLemmas
+pub mod ShortLemmas

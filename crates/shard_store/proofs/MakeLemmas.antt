@@ -1,76 +1,89 @@
 -- What a store that was made or loaded has.
-use Rattle.std.proofs.Common.{◌≡◌, ◌⊎◌, inl, inr, ⊎_elim, ℕ, Bool, true, false, List, [], ◌∷◌, length, Option, sym, ap, subst, ◌∙◌, refl, arith}
-use Rattle.std.proofs.lemmas.List.{take_all}
+use Rattle.std.proofs.Common.{◌≡◌, ◌⊎◌, ◌≤◌, ◌<◌, ◌^◌, ◌++◌, inl, inr, ⊎_elim, ℕ, Bool, true, false, List, [], ◌∷◌, length, Option, sym, ap, subst, ◌∙◌, refl, arith, length-append}
+use Rattle.std.specs.List.{AllByRecursion}
+use Rattle.std.proofs.lemmas.List.{append-nil}
 use Rattle.rig_disk.specs.Disk.{Image}
 use Rattle.rig_disk.specs.During.{During}
 use Rattle.rig_disk.proofs.Moments.{weaker}
 use Rattle.shard_model.specs.Objects.{Geometry}
+use Rattle.shard_model.specs.Shards.{Shard}
+use Rattle.shard_model.specs.StepBytes.{steps_bytes, IsWritable, AreSteps}
 use Rattle.shard_model.specs.Steps.{Step}
 use Rattle.slot_journal.specs.InUse.{Areas, text_in_use}
-use Rattle.slot_journal.specs.Text.{IsText, IsSomeText}
+use Rattle.slot_journal.specs.Text.{IsText, IsSomeText, record_bytes, records}
 use Rattle.slot_journal.specs.Writing.{next_gate}
 use Rattle.slot_journal.specs.Journal.{slot_of, Holds, InSlot, Makes}
-use Rattle.shard_store.specs.Stories.{fresh_shard, AreFitting, AreSpelled, AreTold, HasShard, IsBadAmong, IsBadStory, shard_head, first_steps}
+use Rattle.shard_store.specs.Stories.{fresh_shard, shard_after, AreFitting, AreSpelled, AreTold, HasShard, IsBadAmong, IsBadStory, shard_head, first_steps}
 use Rattle.shard_store.specs.Stored.{head_in, IsStored, MakesShard}
-use Rattle.shard_store.specs.Told.{Told, IsSound, IsAccepted, flushed_steps, accepted_steps, unflushed_bytes, nothing_told, all_flushed, with_flushed}
+use Rattle.shard_store.specs.Told.{Told, IsTold, unflushed_bytes, all_told, all_flushed}
 use Rattle.shard_store.specs.declared.store.Store.{Store}
-use Rattle.shard_store.proofs.StoreLemmas.{body_more, fitting_accepted}
 
 head_is : (store : Store) (head : List ℕ) (slot : ℕ) (g : Geometry) (n : ℕ) → head ≡ shard_head slot g n → slot_of store.journal ≡ slot → store.n ≡ n → store.story.geometry ≡ g
     → head ≡ head_in store
 head_is store head slot g n is slot_is n_is g_is =
     is ∙ ap (λ x. shard_head x g n) (sym slot_is) ∙ ap (λ (x : Geometry). shard_head (slot_of store.journal) x n) (sym g_is) ∙ ap (λ x. shard_head (slot_of store.journal) store.story.geometry x) (sym n_is)
 
+-- all steps of a shard stand in records
+all_stored : (g : Geometry) (shard : Shard) (steps : List Step) → AreFitting (fresh_shard g) steps → shard ≡ shard_after (fresh_shard g) steps → IsTold (all_told g shard) steps []
+all_stored g shard steps fitting led = record {
+  bytes = (tt, refl);
+  fitting = subst (AreFitting (fresh_shard g)) (sym (append-nil steps)) fitting;
+  shard = led ∙ ap (shard_after (fresh_shard g)) (sym (append-nil steps));
+}
+
 module _ (reads : ℕ → ℕ → Option (List ℕ)) (images : Image → List ℕ → Type 0) (store : Store) (text head : List ℕ) (g : Geometry) (slot n : ℕ)
     (is : head ≡ shard_head slot g n) (slot_is : slot_of store.journal ≡ slot) (n_is : store.n ≡ n) where
-  pub loaded : (bodies : List (List ℕ)) (old : Told) → old ≡ nothing_told g → Holds reads images store.journal head bodies text
-      → (steps : List Step) × AreTold old.geometry bodies steps × (store.story ≡ with_flushed old steps) → IsStored reads images store text
-  loaded bodies old fresh holds (steps, told, next) =
-      let story : store.story ≡ with_flushed (nothing_told g) steps = next ∙ ap (λ t. with_flushed t steps) fresh in
-      record {
-        bodies = bodies;
-        holds = subst (λ h. Holds reads images store.journal h bodies text) (head_is store head slot g n is slot_is n_is (ap (λ (t : Told). t.geometry) story)) holds;
-        spelled = subst (AreSpelled bodies) (sym (ap flushed_steps story ∙ take_all (length steps) steps (omega arith))) told.spelled;
-      }
+  pub loaded : (bodies : List (List ℕ)) (shard : Shard) → Holds reads images store.journal head bodies text → store.story ≡ all_told g shard
+      → (steps : List Step) × AreTold g bodies steps × (shard ≡ shard_after (fresh_shard g) steps) → (steps : List Step) × IsStored reads images store text steps []
+  loaded bodies shard holds story (steps, told, led) = (
+    steps,
+    record {
+      bodies = bodies;
+      holds = subst (λ h. Holds reads images store.journal h bodies text) (head_is store head slot g n is slot_is n_is (ap (λ (t : Told). t.geometry) story)) holds;
+      spelled = told.spelled;
+      told = subst (λ t. IsTold t steps []) (sym story) (all_stored g shard steps told.fitting led);
+    },
+  )
 
 -- the story of a new store
 abbrev first_told : Geometry → Bool → Told
-first_told g partial = record { geometry = g; steps = first_steps partial; flushed = 0; accepted = 1 }
+first_told g partial = record { geometry = g; shard = shard_after (fresh_shard g) (first_steps partial); pending = steps_bytes (first_steps partial); staged = [] }
 
-first_accepted : (g : Geometry) (partial : Bool) → IsAccepted (first_told g partial)
-first_accepted g true = refl
-first_accepted g false = refl
+first_written : (partial : Bool) → AllByRecursion IsWritable (first_steps partial)
+first_written true = (tt, tt)
+first_written false = (omega arith, tt)
 
-first_all : (g : Geometry) (partial : Bool) → accepted_steps (first_told g partial) ≡ first_steps partial
-first_all g true = refl
-first_all g false = refl
+pub first_fitting : (g : Geometry) (partial : Bool) → AreFitting (fresh_shard g) (first_steps partial)
+first_fitting g true = (refl, tt)
+first_fitting g false = (refl, tt)
 
-first_spelled : (g : Geometry) (partial : Bool) (t : Told) → t ≡ first_told g partial → IsSound t → AreSpelled (unflushed_bytes t ∷ []) (accepted_steps t)
-first_spelled g partial t is sound = body_more t [] sound (subst IsAccepted (sym is) (first_accepted g partial)) (ap flushed_steps is)
+first_body : (g : Geometry) (partial : Bool) (t : Told) → t ≡ first_told g partial → AreSteps (unflushed_bytes t) (first_steps partial)
+first_body g partial t is = (first_written partial, ap unflushed_bytes is ∙ append-nil (steps_bytes (first_steps partial)))
+
+first_spelled : (g : Geometry) (partial : Bool) (t : Told) → t ≡ first_told g partial → AreSpelled (unflushed_bytes t ∷ []) (first_steps partial)
+first_spelled g partial t is = (first_steps partial, [], first_body g partial t is, sym (append-nil (first_steps partial)), refl)
 
 pub made : (reads : ℕ → ℕ → Option (List ℕ)) (images : Image → List ℕ → Type 0) (store : Store) (text head body : List ℕ) (g : Geometry) (slot n : ℕ) (partial : Bool) (t : Told)
-    → head ≡ shard_head slot g n → slot_of store.journal ≡ slot → store.n ≡ n → t ≡ first_told g partial → IsSound t → body ≡ unflushed_bytes t → store.story ≡ all_flushed t
-    → Holds reads images store.journal head (body ∷ []) text → IsStored reads images store text
-made reads images store text head body g slot n partial t is slot_is n_is first sound bytes flushed holds = record {
-  bodies = body ∷ [];
-  holds = subst (λ h. Holds reads images store.journal h (body ∷ []) text)
-      (head_is store head slot g n is slot_is n_is (ap (λ (s : Told). s.geometry) flushed ∙ ap (λ (s : Told). s.geometry) first)) holds;
-  spelled = subst (λ (s : Told). AreSpelled (body ∷ []) (flushed_steps s)) (sym flushed)
-      (subst (λ b. AreSpelled (b ∷ []) (accepted_steps t)) (sym bytes) (first_spelled g partial t first sound));
-}
+    → head ≡ shard_head slot g n → slot_of store.journal ≡ slot → store.n ≡ n → t ≡ first_told g partial → body ≡ unflushed_bytes t → store.story ≡ all_flushed t
+    → Holds reads images store.journal head (body ∷ []) text → IsStored reads images store text (first_steps partial) []
+made reads images store text head body g slot n partial t is slot_is n_is first bytes flushed holds =
+    let story : store.story ≡ all_told g (shard_after (fresh_shard g) (first_steps partial)) = flushed ∙ ap all_flushed first in
+    record {
+      bodies = body ∷ [];
+      holds = subst (λ h. Holds reads images store.journal h (body ∷ []) text) (head_is store head slot g n is slot_is n_is (ap (λ (s : Told). s.geometry) story)) holds;
+      spelled = subst (λ b. AreSpelled (b ∷ []) (first_steps partial)) (sym bytes) (first_spelled g partial t first);
+      told = subst (λ s. IsTold s (first_steps partial) []) (sym story) (all_stored g (shard_after (fresh_shard g) (first_steps partial)) (first_steps partial) (first_fitting g partial) refl);
+    }
 
-module _ (g : Geometry) (partial : Bool) (t : Told) (first : t ≡ first_told g partial) (sound : IsSound t) (head body : List ℕ) (bytes : body ≡ unflushed_bytes t) where
+module _ (g : Geometry) (partial : Bool) (t : Told) (first : t ≡ first_told g partial) (head body : List ℕ) (bytes : body ≡ unflushed_bytes t) where
   first_shard : (text : List ℕ) → IsText head (body ∷ []) (next_gate 24 body) text → HasShard g head text (first_steps partial)
   first_shard text is_text = record {
     bodies = body ∷ [];
     place = next_gate 24 body;
     is_text = is_text;
-    spelled = subst (λ b. AreSpelled (b ∷ []) (first_steps partial)) (sym bytes) (subst (AreSpelled (unflushed_bytes t ∷ [])) steps (first_spelled g partial t first sound));
-    fitting = subst (λ (x : Geometry). AreFitting (fresh_shard x) (first_steps partial)) (ap (λ (s : Told). s.geometry) first) (subst (AreFitting (fresh_shard t.geometry)) steps (fitting_accepted t sound));
+    spelled = subst (λ b. AreSpelled (b ∷ []) (first_steps partial)) (sym bytes) (first_spelled g partial t first);
+    fitting = first_fitting g partial;
   }
-    where
-      steps : accepted_steps t ≡ first_steps partial
-      steps = ap accepted_steps first ∙ first_all g partial
 
   makes : (reads : ℕ → Option (List ℕ)) (before after : Areas) → Makes reads head body before after → MakesShard reads g head (first_steps partial) before after
   makes reads before after step = record {
@@ -99,11 +112,17 @@ module _ (g : Geometry) (partial : Bool) (t : Told) (first : t ≡ first_told g 
           stepped = makes reads (one.source slot) (image slot) one.stepped;
         }))
 
+-- a record begins before the closed gate
+records_front : (front : List (List ℕ)) (body : List ℕ) (back : List (List ℕ)) → length (records front) ≤ length (records (front ++ body ∷ back))
+records_front [] body back = omega arith
+records_front (b ∷ front) body back =
+    omega (arith, length-append (record_bytes b) (records front), length-append (record_bytes b) (records (front ++ body ∷ back)), records_front front body back)
+
 -- a body that adds nothing is one of the text's
-pub bad_story : (g g' : Geometry) (head wanted text : List ℕ) (bodies : List (List ℕ)) (place at : ℕ) → g' ≡ g → head ≡ wanted → IsText head bodies place text → IsBadAmong g' bodies at
-    → IsBadStory g wanted text at
-bad_story g g' head wanted text bodies place at same is is_text bad =
-    subst (λ x. IsBadStory x wanted text at) same (subst (λ h. IsBadStory g' h text at) is (record {
+pub bad_story : (g : Geometry) (head wanted text : List ℕ) (bodies : List (List ℕ)) (place at : ℕ) → head ≡ wanted → IsText head bodies place text → place < 2 ^ 64
+    → IsBadAmong g bodies at → IsBadStory g wanted text at
+bad_story g head wanted text bodies place at is is_text small bad =
+    subst (λ h. IsBadStory g h text at) is (record {
       front = bad.front;
       body = bad.body;
       back = bad.back;
@@ -112,6 +131,6 @@ bad_story g g' head wanted text bodies place at same is is_text bad =
       is_text = subst (λ bs. IsText head bs place text) bad.parts is_text;
       spelled = bad.told.spelled;
       fitting = bad.told.fitting;
-      at_is = bad.at_is;
+      at_is = omega (arith, bad.at_is, small, is_text.at, is_text.is_header.long, length-append is_text.header (records bodies), records_front bad.front bad.body bad.back, ap (λ bs. length (records bs)) bad.parts);
       bad = bad.bad;
-    }))
+    })

@@ -1,8 +1,8 @@
 -- A text is steps in one way.
-use Rattle.std.proofs.Common.{◌≡◌, ◌<◌, ℕ, List, [], ◌∷◌, ◌++◌, ◌-◌, length, map, get_or, sym, ap, ◌∙◌, refl, Option, Some, arith}
+use Rattle.std.proofs.Common.{◌≡◌, ◌<◌, ℕ, List, [], ◌∷◌, ◌++◌, ◌-◌, length, map, get_or, sym, ap, ◌∙◌, refl, Option, Some, arith, append_assoc}
 use Rattle.std.specs.List.{AllByRecursion}
 use Rattle.shard_model.specs.Steps.{Step}
-use Rattle.shard_model.specs.StepBytes.{step_bytes, steps_bytes, IsWritable, AreSteps}
+use Rattle.shard_model.specs.StepBytes.{step_bytes, steps_bytes, IsWritable, AreSteps, IsFirstBad}
 use Rattle.shard_model.specs.StepReading.{read_step}
 use Rattle.shard_model.proofs.ReadingLemmas.{not_read, same_read}
 use Rattle.shard_model.proofs.StepReadingLemmas.{step_reading}
@@ -36,3 +36,15 @@ last_of f (x ∷ []) n copy y e long last =
     let found = some_same copy (get_or (x ∷ []) (n - 1) copy) (last (omega (arith, long))) in
     ap f (found ∙ ap (λ m. get_or (x ∷ []) (m - 1) copy) long) ∙ head_same (f x) y [] [] e
 last_of f (x ∷ z ∷ rest) n copy y e long last = absurd (omega (arith, ap length e))
+
+-- bytes of steps have no place where none is spelled
+pub no_bad : (text : List ℕ) (steps : List Step) (at : ℕ) → AreSteps text steps → IsFirstBad text at → ⊥
+no_bad text steps at are bad = nowhere bad.front steps bad.spelled are.0 (sym bad.parts ∙ are.1)
+  where
+    nowhere : (front steps : List Step) → AllByRecursion IsWritable front → AllByRecursion IsWritable steps → steps_bytes front ++ bad.rest ≡ steps_bytes steps → ⊥
+    nowhere [] [] p q e = absurd (omega (arith, ap length e, bad.more))
+    nowhere [] (y ∷ ys) p q e = bad.none y (steps_bytes ys) (q.0, e)
+    nowhere (x ∷ xs) [] p q e = not_read x (steps_bytes xs ++ bad.rest) (ap read_step (sym e ∙ append_assoc (step_bytes x) (steps_bytes xs) bad.rest) ∙ read_front x (steps_bytes xs ++ bad.rest) p.0)
+    nowhere (x ∷ xs) (y ∷ ys) p q e =
+        let both = sym (read_front x (steps_bytes xs ++ bad.rest) p.0) ∙ ap read_step (sym (append_assoc (step_bytes x) (steps_bytes xs) bad.rest) ∙ e) ∙ read_front y (steps_bytes ys) q.0 in
+        nowhere xs ys p.1 q.1 (same_read x y (steps_bytes xs ++ bad.rest) (steps_bytes ys) both).1

@@ -1,21 +1,20 @@
 -- What a record more makes of the steps of a slot.
-use Rattle.std.proofs.Common.{◌≡◌, ◌≢◌, ◌⊎◌, inl, inr, ⊎_elim, ◌≤◌, ◌<◌, zero, suc, ℕ, List, [], ◌∷◌, ◌++◌, length, take, drop, Option, sym, ap, subst, ◌∙◌, refl, arith, length-append, append_assoc, take-append-drop}
-use Rattle.std.specs.List.{AllByRecursion}
-use Rattle.std.proofs.lemmas.List.{take_all}
+use Rattle.std.proofs.Common.{◌≡◌, ◌⊎◌, inl, inr, ⊎_elim, ◌≤◌, ℕ, List, [], ◌∷◌, ◌++◌, length, Option, sym, ap, subst, ◌∙◌, refl, arith, length-append, append_assoc}
+use Rattle.std.proofs.lemmas.List.{append-nil}
 use Rattle.rig_disk.specs.Disk.{Image}
 use Rattle.rig_disk.specs.During.{During}
-use Rattle.rig_disk.proofs.Moments.{weaker}
+use Rattle.rig_disk.proofs.Moments.{started, weaker}
 use Rattle.shard_model.specs.Steps.{Step, Enter, Rule, Copy, Back, Firm, Trim, Started, Partial, Put, Drop, Clear, Reset}
 use Rattle.shard_model.specs.StepBytes.{step_bytes, steps_bytes, IsWritable, AreSteps}
 use Rattle.slot_journal.specs.InUse.{Areas, text_in_use}
 use Rattle.slot_journal.specs.Text.{IsText}
 use Rattle.slot_journal.specs.Writing.{IsBeforeOrAfter, next_gate}
 use Rattle.slot_journal.specs.Journal.{gate_of, InSlot, Commits}
-use Rattle.shard_store.specs.Stories.{fresh_shard, AreFitting, AreSpelled, HasShard}
-use Rattle.shard_store.specs.Stored.{slot_in, head_in, Flushes}
-use Rattle.shard_store.specs.Told.{Told, IsSound, IsAccepted, flushed_steps, accepted_steps, unflushed_bytes}
+use Rattle.shard_store.specs.Stories.{fresh_shard, shard_after, AreFitting, AreSpelled, HasShard}
+use Rattle.shard_store.specs.Stored.{slot_in, head_in, IsStored, Flushes}
+use Rattle.shard_store.specs.Told.{Told, IsTold, IsSound, IsAccepted, unflushed_bytes, all_accepted, all_flushed}
 use Rattle.shard_store.specs.declared.store.Store.{Store}
-use Rattle.shard_store.proofs.StoryLemmas.{fitting_front, all_back}
+use Rattle.shard_store.proofs.StoryLemmas.{after_append, fitting_append, fitting_front, all_append, bytes_append}
 
 has_kind : (s : Step) → 1 ≤ length (step_bytes s)
 has_kind (Enter e) = omega arith
@@ -29,18 +28,18 @@ has_kind (Copy (Drop name)) = omega arith
 has_kind (Copy Clear) = omega arith
 has_kind (Copy (Reset v epoch)) = omega arith
 
--- some steps have some bytes
-pub some_bytes : (f : ℕ) (steps : List Step) → f < length steps → 1 ≤ length (steps_bytes (drop f steps))
-some_bytes zero [] below = absurd (omega (arith, below))
-some_bytes zero (x ∷ xs) below = omega (arith, has_kind x, length-append (step_bytes x) (steps_bytes xs))
-some_bytes (suc f) [] below = absurd (omega (arith, below))
-some_bytes (suc f) (x ∷ xs) below = some_bytes f xs (omega (arith, below))
+-- no bytes are no steps
+pub no_bytes : (steps : List Step) → steps_bytes steps ≡ [] → steps ≡ []
+no_bytes [] none = refl
+no_bytes (x ∷ xs) none = absurd (omega (arith, ap length none, has_kind x, length-append (step_bytes x) (steps_bytes xs)))
 
-pub unflushed_some : (t : Told) → IsSound t → IsAccepted t → (t.flushed ≡ t.accepted → ⊥) → 1 ≤ length (unflushed_bytes t)
-unflushed_some t sound accepted some = some_bytes t.flushed t.steps (omega (arith, sound.flushed, accepted, below))
-  where
-    below : t.flushed ≢ t.accepted
-    below = some
+pub some_length : (bytes : List ℕ) → (bytes ≡ [] → ⊥) → 1 ≤ length bytes
+some_length [] some = absurd (some refl)
+some_length (b ∷ bytes) some = omega arith
+
+-- where nothing is staged, the bytes in no record are the pending ones
+pub pending_alone : (t : Told) → IsAccepted t → unflushed_bytes t ≡ t.pending
+pending_alone t accepted = ap (λ l. t.pending ++ steps_bytes l) accepted ∙ append-nil t.pending
 
 -- a body more, of steps more
 pub spelled_more : (bodies : List (List ℕ)) (steps : List Step) (body : List ℕ) (more : List Step) → AreSpelled bodies steps → AreSteps body more
@@ -54,65 +53,72 @@ spelled_more [] steps body more none is =
 spelled_more (b ∷ bodies) steps body more (front, rest, first, parts, then) is =
     (front, rest ++ more, first, ap (λ l. l ++ more) parts ∙ append_assoc front rest more, spelled_more bodies rest body more then is)
 
--- the bytes that are not flushed are the steps that are not
-pub unflushed_steps : (t : Told) → IsSound t → AreSteps (unflushed_bytes t) (drop t.flushed t.steps)
-unflushed_steps t sound = (
-  all_back IsWritable (take t.flushed t.steps) (drop t.flushed t.steps)
-      (subst (AllByRecursion IsWritable) (sym (take-append-drop t.flushed t.steps)) sound.writable),
-  refl,
-)
+-- the pending bytes are a body more
+pub body_more : (t : Told) (bodies : List (List ℕ)) (flushed pending : List Step) → IsAccepted t → IsTold t flushed pending → AreSpelled bodies flushed
+    → AreSpelled (bodies ++ unflushed_bytes t ∷ []) (flushed ++ pending)
+body_more t bodies flushed pending accepted told spelled =
+    subst (λ b. AreSpelled (bodies ++ b ∷ []) (flushed ++ pending)) (sym (pending_alone t accepted)) (spelled_more bodies flushed t.pending pending spelled told.bytes)
 
--- .. and with them all are flushed
-pub all_steps : (t : Told) → IsAccepted t → take t.flushed t.steps ++ drop t.flushed t.steps ≡ accepted_steps t
-all_steps t accepted = take-append-drop t.flushed t.steps ∙ sym (take_all t.accepted t.steps (omega (arith, accepted)))
+-- .. and then no steps are pending
+pub told_flushed : (t : Told) (flushed pending : List Step) → IsTold t flushed pending → IsTold (all_flushed t) (flushed ++ pending) []
+told_flushed t flushed pending told = record {
+  bytes = (tt, refl);
+  fitting = subst (AreFitting (fresh_shard t.geometry)) (sym (append-nil (flushed ++ pending))) told.fitting;
+  shard = told.shard ∙ ap (shard_after (fresh_shard t.geometry)) (sym (append-nil (flushed ++ pending)));
+}
 
-pub body_more : (t : Told) (bodies : List (List ℕ)) → IsSound t → IsAccepted t → AreSpelled bodies (flushed_steps t)
-    → AreSpelled (bodies ++ unflushed_bytes t ∷ []) (accepted_steps t)
-body_more t bodies sound accepted spelled =
-    subst (AreSpelled (bodies ++ unflushed_bytes t ∷ [])) (all_steps t accepted)
-    (spelled_more bodies (flushed_steps t) (unflushed_bytes t) (drop t.flushed t.steps) spelled (unflushed_steps t sound))
+-- where no bytes are pending, no steps are
+pub nothing_more : (reads : ℕ → ℕ → Option (List ℕ)) (images : Image → List ℕ → Type 0) (store : Store) (text : List ℕ) (flushed pending : List Step) → store.story.pending ≡ []
+    → IsStored reads images store text flushed pending → IsStored reads images store text (flushed ++ pending) []
+nothing_more reads images store text flushed pending empty stored =
+    let none : pending ≡ [] = no_bytes pending (sym stored.told.bytes.1 ∙ empty) in
+    let same : flushed ++ pending ≡ flushed = ap (λ l. flushed ++ l) none ∙ append-nil flushed in
+    subst (λ (l : List Step). IsStored reads images store text l []) (sym same) (subst (λ (l : List Step). IsStored reads images store text flushed l) none stored)
 
-fitting_flushed : (t : Told) → IsSound t → AreFitting (fresh_shard t.geometry) (flushed_steps t)
-fitting_flushed t sound =
-    fitting_front (fresh_shard t.geometry) (take t.flushed t.steps) (drop t.flushed t.steps)
-    (subst (AreFitting (fresh_shard t.geometry)) (sym (take-append-drop t.flushed t.steps)) sound.fitting)
+-- the staged steps are pending once they are accepted
+pub told_accepted : (t : Told) (flushed pending : List Step) → IsSound t → IsTold t flushed pending → IsTold (all_accepted t) flushed (pending ++ t.staged)
+told_accepted t flushed pending sound told =
+    let all = sym (append_assoc flushed pending t.staged) in record {
+      bytes = (
+        all_append IsWritable pending t.staged told.bytes.0 sound.writable,
+        ap (λ l. l ++ steps_bytes t.staged) told.bytes.1 ∙ sym (bytes_append pending t.staged),
+      );
+      fitting = subst (AreFitting (fresh_shard t.geometry)) (sym all)
+          (fitting_append (fresh_shard t.geometry) (flushed ++ pending) t.staged told.fitting (subst (λ s. AreFitting s t.staged) told.shard sound.fitting));
+      shard = ap (λ s. shard_after s t.staged) told.shard ∙ sym (after_append (fresh_shard t.geometry) (flushed ++ pending) t.staged)
+          ∙ ap (shard_after (fresh_shard t.geometry)) (sym all);
+    }
 
-pub fitting_accepted : (t : Told) → IsSound t → AreFitting (fresh_shard t.geometry) (accepted_steps t)
-fitting_accepted t sound =
-    fitting_front (fresh_shard t.geometry) (take t.accepted t.steps) (drop t.accepted t.steps)
-    (subst (AreFitting (fresh_shard t.geometry)) (sym (take-append-drop t.accepted t.steps)) sound.fitting)
-
-module _ (reads : ℕ → ℕ → Option (List ℕ)) (images : Image → List ℕ → Type 0) (store : Store) (sound : IsSound store.story) (accepted : IsAccepted store.story) where
-  either : (bodies : List (List ℕ)) (text : List ℕ) → AreSpelled bodies (flushed_steps store.story)
+module _ (reads : ℕ → ℕ → Option (List ℕ)) (images : Image → List ℕ → Type 0) (store : Store) (accepted : IsAccepted store.story) where
+  either : (bodies : List (List ℕ)) (text : List ℕ) (flushed pending : List Step) → IsTold store.story flushed pending → AreSpelled bodies flushed
       → IsBeforeOrAfter (head_in store) bodies (unflushed_bytes store.story) (gate_of store.journal) text
-      → HasShard store.story.geometry (head_in store) text (flushed_steps store.story) ⊎ HasShard store.story.geometry (head_in store) text (accepted_steps store.story)
-  either bodies text spelled which = ⊎_elim
+      → HasShard store.story.geometry (head_in store) text flushed ⊎ HasShard store.story.geometry (head_in store) text (flushed ++ pending)
+  either bodies text flushed pending told spelled which = ⊎_elim
       (λ (before : IsText (head_in store) bodies (gate_of store.journal) text). inl (record {
         bodies = bodies;
         place = gate_of store.journal;
         is_text = before;
         spelled = spelled;
-        fitting = fitting_flushed store.story sound;
+        fitting = fitting_front (fresh_shard store.story.geometry) flushed pending told.fitting;
       }))
       (λ (after : IsText (head_in store) (bodies ++ unflushed_bytes store.story ∷ []) (next_gate (gate_of store.journal) (unflushed_bytes store.story)) text). inr (record {
         bodies = bodies ++ unflushed_bytes store.story ∷ [];
         place = next_gate (gate_of store.journal) (unflushed_bytes store.story);
         is_text = after;
-        spelled = body_more store.story bodies sound accepted spelled;
-        fitting = fitting_accepted store.story sound;
+        spelled = body_more store.story bodies flushed pending accepted told spelled;
+        fitting = told.fitting;
       }))
       which
 
   pub flushes : (body : List ℕ) (before after : Areas) → body ≡ unflushed_bytes store.story → Commits reads images store.journal body before after → Flushes reads images store before after
   flushes body before after is commits = record {
     others = commits.others;
-    shards = λ text stored. either stored.bodies (text_in_use after) stored.spelled
+    shards = λ text flushed pending stored. either stored.bodies (text_in_use after) flushed pending stored.told stored.spelled
         (subst (λ b. IsBeforeOrAfter (head_in store) stored.bodies b (gate_of store.journal) (text_in_use after)) is
         (commits.records (head_in store) stored.bodies text stored.holds));
   }
 
-module _ {R : Type 0} (clock : R → ℕ) (images : R → ℕ → Image → List ℕ → Type 0) (old new : R) (reads : ℕ → ℕ → Option (List ℕ)) (store : Store)
-    (sound : IsSound store.story) (accepted : IsAccepted store.story) where
+module _ {R : Type 0} (clock : R → ℕ) (images : R → ℕ → Image → List ℕ → Type 0) (old new : R) (reads : ℕ → ℕ → Option (List ℕ)) (store : Store) (accepted : IsAccepted store.story) where
   abbrev Now : Image → List ℕ → Type 0
   Now image said = images old (clock old) image said
 
@@ -124,14 +130,26 @@ module _ {R : Type 0} (clock : R → ℕ) (images : R → ℕ → Image → List
         source = one.source;
         was = one.was;
         others = one.others;
-        stepped = flushes reads Now store sound accepted body (one.source (slot_in store)) (image (slot_in store)) is one.stepped;
+        stepped = flushes reads Now store accepted body (one.source (slot_in store)) (image (slot_in store)) is one.stepped;
       })
 
--- the front of some steps has no more bytes
-pub fewer_bytes : (f a : ℕ) (steps : List Step) → length (steps_bytes (drop f (take a steps))) ≤ length (steps_bytes (drop f steps))
-fewer_bytes zero zero steps = omega arith
-fewer_bytes zero (suc a) [] = omega arith
-fewer_bytes zero (suc a) (x ∷ xs) = omega (arith, length-append (step_bytes x) (steps_bytes (take a xs)), length-append (step_bytes x) (steps_bytes xs), fewer_bytes zero a xs)
-fewer_bytes (suc f) zero steps = omega arith
-fewer_bytes (suc f) (suc a) [] = omega arith
-fewer_bytes (suc f) (suc a) (x ∷ xs) = fewer_bytes f a xs
+-- where nothing is written, each image of now has the flushed steps
+pub rests : {R : Type 0} (clock : R → ℕ) (images : R → ℕ → Image → List ℕ → Type 0) (rig : R) (reads : ℕ → ℕ → Option (List ℕ)) (store : Store)
+    → During clock images rig rig (InSlot (images rig (clock rig)) (slot_in store) (Flushes reads (images rig (clock rig)) store))
+rests clock images rig reads store =
+    started clock images rig (InSlot (images rig (clock rig)) (slot_in store) (Flushes reads (images rig (clock rig)) store))
+    (λ image said now. record {
+      source = image;
+      was = now;
+      others = λ s other a. refl;
+      stepped = record {
+        others = λ a other. refl;
+        shards = λ text flushed pending stored. inl (record {
+          bodies = stored.bodies;
+          place = gate_of store.journal;
+          is_text = subst (λ t. IsText (head_in store) stored.bodies (gate_of store.journal) t) (sym (stored.holds.durable image said now)) stored.holds.is_text;
+          spelled = stored.spelled;
+          fitting = fitting_front (fresh_shard store.story.geometry) flushed pending stored.told.fitting;
+        });
+      };
+    })

@@ -1,6 +1,11 @@
+pub mod Codes
 pub mod Inner
 pub mod Laws
+pub mod Lending
 pub mod Ranges
+pub mod Seconds
+pub mod Shelved
+pub mod ShelfCode
 pub mod Shelves
 pub mod Faults
 pub mod Stored

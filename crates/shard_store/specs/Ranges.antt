@@ -2,7 +2,6 @@
 use Rattle.std.specs.Prelude.{◌≡◌, ◌+◌, ℕ, List, length, take, drop, nat_le, if◌then◌else◌, Bool, true, false, Option, Some, None}
 use Rattle.std.specs.FinMap as map
 use Rattle.shard_model.specs.Objects.{ShardObject}
-use Rattle.shard_store.specs.Told.{shard_of}
 use Rattle.shard_store.specs.declared.store.Store.{Store}
 
 -- the bytes of an object, where there is one
@@ -13,7 +12,7 @@ bytes_in (Some o) = Some o.bytes
 -- .. of a name in the shard of a store
 abbrev pub object_bytes : Option Store → List ℕ → Option (List ℕ)
 object_bytes None name = None
-object_bytes (Some store) name = bytes_in (map.get (shard_of store.story).state.objects name)
+object_bytes (Some store) name = bytes_in (map.get store.story.shard.state.objects name)
 
 -- n bytes from a place on, where there are so many
 abbrev pub range_of : Option (List ℕ) → ℕ → ℕ → Option (List ℕ)

@@ -1,5 +1,5 @@
 -- What a contract sees of a store, and what its slot holds. Source: this project.
-use Rattle.std.specs.Prelude.{◌≡◌, ◌≢◌, ◌⊎◌, ℕ, true, false, List, Option, Some, Result, OnOk, OnErr}
+use Rattle.std.specs.Prelude.{◌≡◌, ◌≢◌, ◌⊎◌, ◌++◌, [], ℕ, true, false, List, Option, Some, Result, OnOk, OnErr}
 use Rattle.rig_disk.specs.Disk.{Image}
 use Rattle.shard_model.specs.Objects.{Geometry}
 use Rattle.shard_model.specs.Steps.{Step}
@@ -7,7 +7,7 @@ use Rattle.slot_journal.specs.InUse.{Areas, text_in_use, told_text}
 use Rattle.slot_journal.specs.Journal.{slot_of, area_of, room_of, is_spent, Holds, IsSettledWhereTold}
 use Rattle.slot_journal.specs.Text.{IsSomeText}
 use Rattle.shard_store.specs.Stories.{AreSpelled, HasShard, shard_head}
-use Rattle.shard_store.specs.Told.{Told, IsAccepted, flushed_steps, accepted_steps, all_flushed}
+use Rattle.shard_store.specs.Told.{Told, IsTold, IsAccepted, all_flushed}
 use Rattle.shard_store.specs.declared.store.Store.{Store}
 
 abbrev pub slot_in : Store → ℕ
@@ -34,20 +34,22 @@ head_in store = shard_head (slot_of store.journal) store.story.geometry store.n
 abbrev pub IsAtRest : (ℕ → ℕ → Option (List ℕ)) → (Image → List ℕ → Type 0) → Store → Type 0
 IsAtRest reads images store = IsSettledWhereTold reads images store.journal
 
--- the slot's text in use has the flushed steps, as each image of now has
-pub record IsStored (reads : ℕ → ℕ → Option (List ℕ)) (images : Image → List ℕ → Type 0) (store : Store) (text : List ℕ) : Type 0 where
+-- the slot's text in use has these steps, as each image of now has, and these more are accepted; they lead to the shard
+pub record IsStored (reads : ℕ → ℕ → Option (List ℕ)) (images : Image → List ℕ → Type 0) (store : Store) (text : List ℕ)
+    (flushed pending : List Step) : Type 0 where
   pub bodies : List (List ℕ)
   pub holds : Holds reads images store.journal (head_in store) bodies text
-  pub spelled : AreSpelled bodies (flushed_steps store.story)
+  pub spelled : AreSpelled bodies flushed
+  pub told : IsTold store.story flushed pending
 
 -- a flush at each of its instants: one area alone changes, and where the slot had the flushed steps, it has these or all
 -- accepted ones
 pub record Flushes (reads : ℕ → ℕ → Option (List ℕ)) (images : Image → List ℕ → Type 0) (store : Store)
     (before after : Areas) : Type 0 where
   pub others : (a : ℕ) → a ≢ area_of store.journal → after a ≡ before a
-  pub shards : (text : List ℕ) → IsStored reads images store text
-      → HasShard store.story.geometry (head_in store) (text_in_use after) (flushed_steps store.story)
-      ⊎ HasShard store.story.geometry (head_in store) (text_in_use after) (accepted_steps store.story)
+  pub shards : (text : List ℕ) (flushed pending : List Step) → IsStored reads images store text flushed pending
+      → HasShard store.story.geometry (head_in store) (text_in_use after) flushed
+      ⊎ HasShard store.story.geometry (head_in store) (text_in_use after) (flushed ++ pending)
 
 -- the store was told this from now on, and all else is as it was
 pub record Becomes (old new : Store) (told : Told) : Type 0 where
@@ -62,13 +64,13 @@ pub record IsFlushed {T E : Type 0} (old new : Store) (result : Result T E) : Ty
   pub flushed : OnOk result (new.story ≡ all_flushed old.story)
   pub kept : OnErr result (new.story ≡ old.story)
 
--- a new value over a slot, of which these steps are flushed and no others were told
+-- a new value over a slot, with no steps but those that stand in records
 pub record IsNew (store : Store) (slot : ℕ) (g : Geometry) (n : ℕ) : Type 0 where
   pub slot_is : slot_of store.journal ≡ slot
   pub n_is : store.n ≡ n
   pub geometry_is : store.story.geometry ≡ g
   pub accepted : IsAccepted store.story
-  pub flushed : store.story.flushed ≡ store.story.accepted
+  pub flushed : store.story.pending ≡ []
   pub unspent : is_spent store.journal ≡ false
 
 -- the making of a store at each of its instants: one area alone changes, and the slot has in use the text that it had, no

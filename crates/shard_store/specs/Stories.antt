@@ -47,7 +47,7 @@ abbrev pub IsBadBody : Shard → List ℕ → Type 0
 IsBadBody s body =
     ((at : ℕ) × IsFirstBad body at) ⊎ ((steps : List Step) × AreSteps body steps × (AreFitting s steps → ⊥))
 
--- of a text of the grammar the record whose gate is at this place, as far as a word tells it, is the first that does not fit
+-- of a text of the grammar the record whose gate is at this place is the first that does not fit
 pub record IsBadStory (g : Geometry) (head text : List ℕ) (at : ℕ) : Type 0 where
   pub front : List (List ℕ)
   pub body : List ℕ
@@ -57,7 +57,7 @@ pub record IsBadStory (g : Geometry) (head text : List ℕ) (at : ℕ) : Type 0 
   pub is_text : IsText head (front ++ body ∷ back) place text
   pub spelled : AreSpelled front steps
   pub fitting : AreFitting (fresh_shard g) steps
-  pub at_is : at ≡ min (24 + length (records front)) (2 ^ 64 - 1)
+  pub at_is : at ≡ 24 + length (records front)
   pub bad : IsBadBody (shard_after (fresh_shard g) steps) body
 
 -- the bodies tell these steps, and each of them fits

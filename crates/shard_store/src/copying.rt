@@ -5,7 +5,7 @@ ghost use Rattle.shard_model.specs.StepBytes.{step_bytes, HasWords, IsName, IsWo
 ghost use Rattle.shard_state.specs.StepMeanings.{step_of};
 
 use ec_words::{Bytes, Name, NoMemory, Version};
-use shard_state::{Pairs, Step, decode_steps, encode_steps};
+use shard_state::{Pairs, Step, StepsFault, decode_steps, encode_steps};
 use std::alloc::Global;
 use std::slice;
 
@@ -20,9 +20,10 @@ pub(crate) fn copy_step(alloc: Global, step: &Step) -> Result<(Step, Bytes), NoM
     let text = encode_steps(alloc, slice::from_ref(step))?;
     // The text is that of one step, so only memory can be wanting.
     match decode_steps(alloc, text.as_slice()) {
-        Err(_) => Err(NoMemory),
+        Err(StepsFault::NoMemory) => Err(NoMemory),
+        Err(StepsFault::BadStep { .. }) => unreachable!(),
         Ok(steps) => match steps.into_vec().pop() {
-            None => Err(NoMemory),
+            None => unreachable!(),
             Some(copy) => Ok((copy, text)),
         },
     }

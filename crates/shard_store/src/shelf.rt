@@ -1,13 +1,16 @@
 //! The stores of a pool's slots, and the bytes of their objects.
 ghost use Rattle.std.specs.Prelude.{◌≡◌, ◌<◌, ◌+◌, ◌-◌, ◌^◌, ℕ, length, min, Some, None, IfErr, IfSome, OnOk, OnErr};
-ghost use Rattle.std.specs.Option.{option_copied};
+ghost use Rattle.std.specs.Borrow.{sem};
+ghost use Rattle.std.specs.Option.{option_copied, option_copied_mut};
 ghost use Rattle.shard_store.specs.Told.{IsAccepted};
 ghost use Rattle.shard_store.specs.Ranges.{IsRange, object_bytes};
 ghost use Rattle.shard_store.specs.Stored.{told_in};
 
 use crate::Store;
+use arrayvec::ArrayVec;
 use ec_words::Name;
 use rig_disk::Rig;
+use std::marker::Model;
 use thiserror::Error;
 
 /// Why bytes are not fetched.
@@ -24,11 +27,27 @@ pub enum FetchFault {
 /// A store, or none, for each slot below 16, and how many bytes were fetched on each of them.
 #[derive(Drop)]
 pub struct Shelf {
-    stores: [Option<Store>; 16],
+    stores: ArrayVec<Option<Store>, 16>,
     fetched: [u64; 16],
 }
 
+impl Model for Shelf {
+    ghost use Rattle.std.specs.Prelude.{◌≡◌, length};
+    ghost use Rattle.shard_store.specs.Shelved.{Shelved};
+
+    ghost Value = { Shelved };
+
+    ghost use Rattle.shard_store.specs.ShelfCode.{shelved_code};
+
+    ghost coded = { shelved_code };
+
+    ghost view = { λ s. record { stores = s.stores.items; fetched = s.fetched } };
+
+    ghost invariant = { λ s. length s.stores.items ≡ 16 };
+}
+
 impl Shelf {
+    ghost use Rattle.shard_store.specs.Lending.{LendsStore};
     ghost use Rattle.shard_store.specs.Shelves.{store_at, fetched_on, KeepsStores, Counts};
     ghost use Rattle.shard_store.specs.Stored.{slot_in};
     ghost use Rattle.shard_store.specs.Ranges.{range_of};
@@ -40,10 +59,13 @@ impl Shelf {
         ensures fetched { (slot : ℕ) → fetched_on result slot ≡ 0 }
     {
         Shelf {
-            stores: [
-                None, None, None, None, None, None, None, None, None, None, None, None, None, None,
-                None, None,
-            ],
+            stores: ArrayVec::from_array_in(
+                (),
+                [
+                    None, None, None, None, None, None, None, None, None, None, None, None, None,
+                    None, None, None,
+                ],
+            ),
             fetched: [0; 16],
         }
     }
@@ -73,6 +95,19 @@ impl Shelf {
         ensures { option_copied result ≡ store_at self.now slot }
     {
         self.stores[slot as usize].as_ref()
+    }
+
+    /// A slot's store, to be changed. `None` exactly where none was put there since it was last dropped. What the store ends
+    /// as, the shelf has at the slot, and all else is as it was.
+    pub fn get_mut(&mut self, slot: u8) -> Option<&mut Store>
+        requires { slot < 16 }
+        ensures* writes_back { sem 𝓛 (LendsStore self.entry slot result) }
+        ensures value { option_copied_mut result ≡ store_at self.old slot }
+    {
+        match self.stores.get_mut(slot as usize) {
+            None => None,
+            Some(place) => place.as_mut(),
+        }
     }
 
     /// How many bytes were fetched on a slot; the count stands still at the largest number of a word.

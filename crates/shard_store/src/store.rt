@@ -1,20 +1,21 @@
 //! The store of one slot: a journal, and the state that its records lead to.
-ghost use Rattle.std.specs.Prelude.{◌≡◌, ◌⊎◌, ◌≤◌, ◌+◌, ◌↔◌, ℕ, List, length, max, Some, Err, true, false, IfOk, IfErr, IsErrOf, OnOk, OnErr};
+ghost use Rattle.std.specs.Prelude.{◌≡◌, ◌⊎◌, ◌≤◌, ◌+◌, ◌↔◌, ◌++◌, [], ℕ, List, length, max, Some, Err, true, false, IfOk, IfErr, IsErrOf, OnOk, OnErr};
 ghost use Rattle.rig_disk.specs.During.{During};
 ghost use Rattle.rig_disk.specs.Frame.{Spends, KeepsOthers};
 ghost use Rattle.shard_model.specs.States.{fits};
-ghost use Rattle.shard_model.specs.StepBytes.{step_bytes, HasShortLists};
+ghost use Rattle.shard_model.specs.StepBytes.{step_bytes};
+ghost use Rattle.shard_model.specs.Steps.{Step as Meant};
 ghost use Rattle.shard_state.specs.StepMeanings.{step_of};
 ghost use Rattle.slot_journal.specs.Journal.{room_of, InSlot};
 ghost use Rattle.slot_journal.specs.InUse.{told_text};
 ghost use Rattle.slot_journal.specs.Reading.{OnlyReads};
 ghost use Rattle.slot_journal.specs.Text.{max_body, IsBadText};
-ghost use Rattle.shard_store.specs.Stories.{first_steps, shard_head, IsBadStory};
-ghost use Rattle.shard_store.specs.Told.{IsAccepted, shard_of, staged_shard, pending_bytes, unflushed_bytes, with_step, all_accepted, none_staged, all_flushed};
+ghost use Rattle.shard_store.specs.Stories.{fresh_shard, shard_after, first_steps, shard_head, IsBadStory};
+ghost use Rattle.shard_store.specs.Told.{IsAccepted, IsSound, IsTold, staged_shard, unflushed_bytes, all_told, with_step, all_accepted, none_staged, all_flushed};
 
 use crate::StoreFault;
 use crate::header::shard_head;
-use crate::loading::tell_bodies;
+use crate::loading::{replay_bodies, with_place};
 use crate::story::{Story, first_story};
 use ec_words::Geometry;
 use rig_disk::Rig;
@@ -52,10 +53,11 @@ impl Store {
         requires here { R.is_here rig.old slot }
 
         ensures ok { IfOk result (λ store. (text : List ℕ) → told_text (R.reads rig.old slot) ≡ Some text
-            → (after : List ℕ) × IsStored (R.reads rig.new) (R.images rig.new (R.clock rig.new)) store after) }
+            → (after : List ℕ) × IsStored (R.reads rig.new) (R.images rig.new (R.clock rig.new)) store after (first_steps partial) []) }
         ensures settled { IfOk result (IsAtRest (R.reads rig.new) (R.images rig.new (R.clock rig.new))) }
         ensures fresh { IfOk result (λ store. IsNew store slot (record { k = g.k; unit = g.unit }) n) }
-        ensures steps { IfOk result (λ store. (told_in store).steps ≡ first_steps partial) }
+        ensures steps { IfOk result (λ store. told_in store ≡ all_told (record { k = g.k; unit = g.unit })
+            (shard_after (fresh_shard (record { k = g.k; unit = g.unit })) (first_steps partial))) }
         ensures faults { IfErr result (λ fault. (fault ≡ SlotFailed) ⊎ (fault ≡ OutOfMemory)) }
         ensures only_if_fault { HasStoreCause (R.faults rig.old slot) (R.faults rig.new slot) result }
 
@@ -92,7 +94,7 @@ impl Store {
         requires here { R.is_here rig.old slot }
 
         ensures ok { IfOk result (λ store. (text : List ℕ) → told_text (R.reads rig.old slot) ≡ Some text
-            → IsStored (R.reads rig.new) (R.images rig.new (R.clock rig.new)) store text) }
+            → (steps : List Meant) × IsStored (R.reads rig.new) (R.images rig.new (R.clock rig.new)) store text steps []) }
         ensures settled { IfOk result (IsAtRest (R.reads rig.new) (R.images rig.new (R.clock rig.new))) }
         ensures fresh { IfOk result (λ store. IsNew store slot (record { k = g.k; unit = g.unit }) n) }
         ensures bad_slot { (at : ℕ) → IsErrOf result (BadSlot at) → (text : List ℕ)
@@ -106,8 +108,9 @@ impl Store {
     {
         match Journal::load(alloc, rig, slot, &shard_head(slot, g, n)) {
             Ok((journal, bodies)) => {
-                let mut story = Story::new(alloc, g);
-                tell_bodies(alloc, &mut story, bodies.as_slice())?;
+                let journal = with_place(journal);
+                let state = replay_bodies(alloc, g, bodies.into_vec())?;
+                let story = Story::of(alloc, g, state);
                 Ok(Store { journal, story, n })
             }
             Err(JournalFault::Failed) => Err(StoreFault::Failed),
@@ -120,7 +123,8 @@ impl Store {
     /// The state after the accepted steps.
     pub fn state(&self) -> &ShardState
         requires { IsAccepted (told_in self.now) }
-        ensures { result.now ≡ shard_of (told_in self.now) }
+        ensures value { result.now ≡ (told_in self.now).shard }
+        ensures sound { IsSound (told_in self.now) }
     {
         self.story.state()
     }
@@ -134,20 +138,18 @@ impl Store {
 
     /// The number of bytes of the accepted steps that are not flushed.
     pub fn pending(&self) -> u64
-        ensures { result ≡ length (pending_bytes (told_in self.now)) }
+        ensures { result ≡ length (told_in self.now).pending }
     {
         self.story.pending() as u64
     }
 
     /// Stages a step behind those that are staged already, and takes all memory that it needs. On a refusal all is as it was.
     pub fn stage(&mut self, step: &Step) -> Result<(), StepFault>
-        requires spelled { HasShortLists (step_of step.now) }
         requires short { length (unflushed_bytes (told_in self.old)) + length (step_bytes (step_of step.now)) ≤ max_body }
         requires room { length (unflushed_bytes (told_in self.old)) + length (step_bytes (step_of step.now)) + 5 ≤ room_in self.old }
         ensures ok { OnOk result (Becomes self.old self.new (with_step (told_in self.old) (step_of step.now))) }
-        ensures fit { OnOk result (fits (staged_shard (told_in self.old)).geometry (staged_shard (told_in self.old)).state (step_of step.now) ≡ true) }
-        ensures misfit { result ≡ Err StepFault.Misfit
-            → fits (staged_shard (told_in self.old)).geometry (staged_shard (told_in self.old)).state (step_of step.now) ≡ false }
+        ensures misfit { (result ≡ Err StepFault.Misfit)
+            ↔ (fits (staged_shard (told_in self.old)).geometry (staged_shard (told_in self.old)).state (step_of step.now) ≡ false) }
         ensures unchanged { OnErr result (self.new ≡ self.old) }
     {
         self.story.stage(step)
@@ -155,7 +157,9 @@ impl Store {
 
     /// The staged steps take effect, in order. It takes no memory.
     pub fn accept(&mut self)
-        ensures { Becomes self.old self.new (all_accepted (told_in self.old)) }
+        ensures value { Becomes self.old self.new (all_accepted (told_in self.old)) }
+        ensures told { (flushed pending : List Meant) → IsTold (told_in self.old) flushed pending
+            → IsTold (told_in self.new) flushed (pending ++ (told_in self.old).staged) }
     {
         self.story.accept();
     }
@@ -174,14 +178,14 @@ impl Store {
         requires accepted { IsAccepted (told_in self.old) }
         requires settled { (is_stuck self.old → ⊥) → IsAtRest (R.reads rig.old) (R.images rig.old (R.clock rig.old)) self.old }
 
-        ensures ok { OnOk result ((text : List ℕ)
-            → IsStored (R.reads rig.old) (R.images rig.old (R.clock rig.old)) self.old text
-            → (after : List ℕ) × IsStored (R.reads rig.new) (R.images rig.new (R.clock rig.new)) self.new after) }
+        ensures ok { OnOk result ((text : List ℕ) (flushed pending : List Meant)
+            → IsStored (R.reads rig.old) (R.images rig.old (R.clock rig.old)) self.old text flushed pending
+            → (after : List ℕ) × IsStored (R.reads rig.new) (R.images rig.new (R.clock rig.new)) self.new after (flushed ++ pending) []) }
         ensures settled { OnOk result ((is_stuck self.new → ⊥)
             → IsAtRest (R.reads rig.new) (R.images rig.new (R.clock rig.new)) self.new) }
         ensures after { IsFlushed self.old self.new result }
         ensures spent { (result ≡ Err StoreFault.Spent) ↔ (is_stuck self.old
-            × ((told_in self.old).flushed ≡ (told_in self.old).accepted → ⊥)) }
+            × ((told_in self.old).pending ≡ [] → ⊥)) }
         ensures unchanged { is_stuck self.old → rig.new ≡ rig.old }
         ensures faults { IfErr result (λ fault. (fault ≡ SlotFailed) ⊎ (fault ≡ Spent)) }
         ensures only_if_fault { HasStoreCause
@@ -191,7 +195,7 @@ impl Store {
             (InSlot (R.images rig.old (R.clock rig.old)) (slot_in self.old)
             (Flushes (R.reads rig.old) (R.images rig.old (R.clock rig.old)) self.old)) }
         ensures counts { Spends R.syncs R.bytes_written R.bytes_read
-            (slot_in self.old) 2 (length (pending_bytes (told_in self.old)) + 6) 0 rig.old rig.new }
+            (slot_in self.old) 2 (length (told_in self.old).pending + 6) 0 rig.old rig.new }
         ensures kept { KeepsOthers R.is_here R.reads R.said R.faults R.syncs R.bytes_written R.bytes_read
             (slot_in self.old) (area_in self.old) rig.old rig.new }
     {

@@ -1,11 +1,12 @@
-//! The steps that a store was told, and the state that they lead to.
-ghost use Rattle.std.specs.Prelude.{◌≡◌, ◌≤◌, ◌↔◌, ◌∷◌, [], length, map, take, Err, true, false, IsTrue, IfOk, OnOk, OnErr};
-ghost use Rattle.shard_model.specs.Shards.{Shard};
+//! What a store was told, and the states that it leads to.
+ghost use Rattle.std.specs.Prelude.{◌≡◌, ◌≤◌, ◌<◌, ◌↔◌, ◌∷◌, [], length, map, Err, true, false, IsTrue, IfOk, OnOk, OnErr};
 ghost use Rattle.shard_model.specs.States.{fits};
-ghost use Rattle.shard_model.specs.StepBytes.{IsWritable, HasShortLists};
+ghost use Rattle.shard_model.specs.StepBytes.{step_bytes, steps_bytes};
 ghost use Rattle.shard_state.specs.StepMeanings.{step_of};
-ghost use Rattle.shard_store.specs.Stories.{shard_after, first_steps};
-ghost use Rattle.shard_store.specs.Told.{IsAccepted, IsSound, shard_of, staged_shard, pending_bytes, unflushed_bytes, nothing_told, with_step, all_accepted, none_staged, all_flushed, with_flushed};
+ghost use Rattle.slot_journal.specs.Text.{max_body};
+ghost use Rattle.shard_store.specs.Seconds.{IsAhead};
+ghost use Rattle.shard_store.specs.Stories.{fresh_shard, shard_after, AreFitting, first_steps};
+ghost use Rattle.shard_store.specs.Told.{IsAccepted, IsReplayed, IsSound, staged_shard, unflushed_bytes, all_told, with_step, all_accepted, none_staged, all_flushed};
 
 use crate::copying::copy_step;
 use ec_words::{Geometry, NoMemory};
@@ -14,18 +15,17 @@ use std::alloc::Global;
 use std::marker::Model;
 use std::mem;
 
-/// The steps that a store was told, and two states that they lead to: one after the accepted steps, and one that runs ahead
-/// of it over the staged ones. A contract sees the steps, how many of them were accepted, and how many were flushed.
+/// The state after the accepted steps, and a second one that runs ahead of it over the staged steps. The second is made when
+/// a step is first staged. Once those steps are accepted the two change places, and the one that is behind then does the same
+/// steps when the next is staged. No other steps are kept; `body` has the bytes of those that are in no record.
 #[derive(Drop)]
 pub(crate) struct Story {
     alloc: Global,
     geometry: Geometry,
     state: ShardState,
-    ahead: ShardState,
-    steps: Vec<Step>,
-    flushed: usize,
-    accepted: usize,
-    done: usize,
+    ahead: Option<ShardState>,
+    behind: Vec<Step>,
+    staged: Vec<Step>,
     body: Vec<u8>,
     body_len: usize,
 }
@@ -35,6 +35,10 @@ impl Model for Story {
 
     ghost Value = { Told };
 
+    ghost use Rattle.shard_store.specs.Codes.{told_code};
+
+    ghost coded = { told_code };
+
     ghost use Rattle.shard_store.specs.Inner.{told_of, IsKept};
 
     ghost view = { told_of };
@@ -43,19 +47,18 @@ impl Model for Story {
 }
 
 impl Story {
-    /// Before any step. It takes no memory yet.
-    pub fn new(alloc: Global, g: Geometry) -> Story
-        ensures { result ≡ nothing_told (record { k = g.k; unit = g.unit }) }
+    /// Of a state, all steps of which stand in records. It takes no memory.
+    pub fn of(alloc: Global, g: Geometry, state: ShardState) -> Story
+        requires { IsReplayed (record { k = g.k; unit = g.unit }) state }
+        ensures { result ≡ all_told (record { k = g.k; unit = g.unit }) state }
     {
         Story {
             alloc,
             geometry: g,
-            state: ShardState::fresh(alloc, g),
-            ahead: ShardState::fresh(alloc, g),
-            steps: Vec::new(alloc),
-            flushed: 0,
-            accepted: 0,
-            done: 0,
+            state,
+            ahead: None,
+            behind: Vec::new(alloc),
+            staged: Vec::new(alloc),
             body: Vec::new(alloc),
             body_len: 0,
         }
@@ -63,52 +66,85 @@ impl Story {
 
     /// The state after the accepted steps.
     pub fn state(&self) -> &ShardState
-        ensures { result.now ≡ shard_of self.now }
+        ensures value { result.now ≡ self.now.shard }
+        ensures sound { IsSound self.now }
     {
         &self.state
     }
 
-    /// The bytes of the steps that are not flushed.
+    /// The bytes of the steps that are in no record.
     pub fn body(&self) -> &[u8]
-        ensures value { result.now ≡ unflushed_bytes self.now }
-        ensures sound { IsSound self.now }
+        ensures { result.now ≡ unflushed_bytes self.now }
     {
         self.body.as_slice()
     }
 
     /// Whether each accepted step stands in a record.
     pub fn is_flushed(&self) -> bool
-        ensures value { IsTrue result ↔ (self.now.flushed ≡ self.now.accepted) }
-        ensures sound { IsSound self.now }
+        ensures { IsTrue result ↔ (self.now.pending ≡ []) }
     {
-        self.flushed == self.accepted
+        self.body_len == 0
     }
 
-    /// How many bytes the accepted steps have that are not flushed.
+    /// How many bytes the accepted steps have that are in no record.
     pub fn pending(&self) -> usize
-        ensures { result ≡ length (pending_bytes self.now) }
+        ensures { result ≡ length self.now.pending }
     {
         self.body_len
     }
 
-    /// Stages a step that fits the state after those before it, or leaves all as it was.
+    /// Whether a step fits behind the staged ones.
+    fn is_next(&self, step: &Step) -> bool
+        ensures { result ≡ fits (staged_shard self.now).geometry (staged_shard self.now).state (step_of step.now) }
+    {
+        if self.staged.is_empty() {
+            return self.state.fits(step);
+        }
+        match &self.ahead {
+            None => unreachable!(),
+            Some(ahead) => ahead.fits(step),
+        }
+    }
+
+    /// Stages a step that fits behind the staged ones, or leaves all as it was.
     pub fn stage(&mut self, step: &Step) -> Result<(), StepFault>
-        requires { HasShortLists (step_of step.now) }
+        requires { length (step_bytes (step_of step.now)) ≤ max_body }
         ensures ok { OnOk result (self.new ≡ with_step self.old (step_of step.now)) }
-        ensures fit { OnOk result (fits (staged_shard self.old).geometry (staged_shard self.old).state (step_of step.now) ≡ true) }
-        ensures misfit { result ≡ Err StepFault.Misfit
-            → fits (staged_shard self.old).geometry (staged_shard self.old).state (step_of step.now) ≡ false }
+        ensures misfit { (result ≡ Err StepFault.Misfit)
+            ↔ (fits (staged_shard self.old).geometry (staged_shard self.old).state (step_of step.now) ≡ false) }
+        ensures unchanged { OnErr result (self.new ≡ self.old) }
+    {
+        if !self.is_next(step) {
+            return Err(StepFault::Misfit);
+        }
+        match self.stage_next(step) {
+            Ok(()) => Ok(()),
+            Err(_) => Err(StepFault::NoMemory),
+        }
+    }
+
+    /// Stages a step that fits.
+    fn stage_next(&mut self, step: &Step) -> Result<(), NoMemory>
+        requires short { length (step_bytes (step_of step.now)) ≤ max_body }
+        requires fit { fits (staged_shard self.old).geometry (staged_shard self.old).state (step_of step.now) ≡ true }
+        ensures ok { OnOk result (self.new ≡ with_step self.old (step_of step.now)) }
         ensures unchanged { OnErr result (self.new ≡ self.old) }
     {
         let (copy, text) = copy_step(self.alloc, step)?;
-        self.steps.reserve(1).or(Err(StepFault::NoMemory))?;
-        self.body
-            .reserve(text.as_slice().len())
-            .or(Err(StepFault::NoMemory))?;
-        catch_up(&mut self.ahead, &self.steps, &mut self.done)?;
-        self.ahead.apply(step)?;
-        self.done += 1;
-        match self.steps.push(copy) {
+        self.staged.reserve(1)?;
+        self.body.reserve(text.as_slice().len())?;
+        let before = self.ahead.take();
+        let level = second(self.alloc, &self.state, before, &self.behind, &self.staged);
+        self.behind.clear();
+        let mut ahead = level?;
+        let done = ahead.apply(step);
+        self.ahead = Some(ahead);
+        match done {
+            Ok(()) => {}
+            Err(StepFault::Misfit) => unreachable!(),
+            Err(StepFault::NoMemory) => return Err(NoMemory),
+        }
+        match self.staged.push(copy) {
             Ok(()) => {}
             Err(_) => unreachable!(),
         }
@@ -121,14 +157,17 @@ impl Story {
 
     /// The staged steps take effect. It takes no memory.
     pub fn accept(&mut self)
-        ensures { self.new ≡ all_accepted self.old }
+        ensures value { self.new ≡ all_accepted self.old }
+        ensures sound { IsSound self.old }
     {
-        if self.accepted == self.steps.len() {
+        if self.staged.is_empty() {
             return;
         }
-        mem::swap(&mut self.state, &mut self.ahead);
-        self.done = self.accepted;
-        self.accepted = self.steps.len();
+        match self.ahead.take() {
+            None => unreachable!(),
+            Some(ahead) => self.ahead = Some(mem::replace(&mut self.state, ahead)),
+        }
+        mem::swap(&mut self.behind, &mut self.staged);
         self.body_len = self.body.len();
     }
 
@@ -136,12 +175,11 @@ impl Story {
     pub fn unstage(&mut self)
         ensures { self.new ≡ none_staged self.old }
     {
-        if self.accepted == self.steps.len() {
+        if self.staged.is_empty() {
             return;
         }
-        self.ahead = ShardState::fresh(self.alloc, self.geometry);
-        self.done = 0;
-        self.steps.truncate(self.accepted);
+        self.ahead = None;
+        self.staged.clear();
         self.body.truncate(self.body_len);
     }
 
@@ -150,41 +188,18 @@ impl Story {
         requires { IsAccepted self.old }
         ensures { self.new ≡ all_flushed self.old }
     {
-        self.flushed = self.accepted;
         self.body.clear();
         self.body_len = 0;
     }
-
-    /// Adds a step that stands in a record, where it fits.
-    pub fn tell(&mut self, step: Step) -> Result<(), StepFault>
-        requires accepted { IsAccepted self.old }
-        requires flushed { self.old.flushed ≡ self.old.accepted }
-        requires writable { IsWritable (step_of step) }
-        ensures ok { OnOk result (self.new ≡ with_flushed self.old (step_of step ∷ [])) }
-        ensures fit { OnOk result (fits (shard_of self.old).geometry (shard_of self.old).state (step_of step) ≡ true) }
-        ensures misfit { result ≡ Err StepFault.Misfit
-            → fits (shard_of self.old).geometry (shard_of self.old).state (step_of step) ≡ false }
-        ensures unchanged { OnErr result (self.new ≡ self.old) }
-    {
-        self.steps.reserve(1).or(Err(StepFault::NoMemory))?;
-        self.state.apply(&step)?;
-        match self.steps.push(step) {
-            Ok(()) => {}
-            Err(_) => unreachable!(),
-        }
-        self.accepted += 1;
-        self.flushed += 1;
-        Ok(())
-    }
 }
 
-/// The story of a new store: one step, accepted and not flushed.
+/// The story of a new store: one step, accepted and in no record.
 pub(crate) fn first_story(alloc: Global, g: Geometry, partial: bool) -> Result<Story, NoMemory>
     ensures { IfOk result (λ story. story ≡ record {
       geometry = record { k = g.k; unit = g.unit };
-      steps = first_steps partial;
-      flushed = 0;
-      accepted = 1;
+      shard = shard_after (fresh_shard (record { k = g.k; unit = g.unit })) (first_steps partial);
+      pending = steps_bytes (first_steps partial);
+      staged = [];
     }) }
 {
     let step = if partial {
@@ -192,55 +207,48 @@ pub(crate) fn first_story(alloc: Global, g: Geometry, partial: bool) -> Result<S
     } else {
         Step::Started(1)
     };
-    let mut story = Story::new(alloc, g);
+    let mut story = Story::of(alloc, g, ShardState::fresh(alloc, g));
     match story.stage(&step) {
         Ok(()) => {}
-        Err(_) => return Err(NoMemory),
+        Err(StepFault::Misfit) => unreachable!(),
+        Err(StepFault::NoMemory) => return Err(NoMemory),
     }
     story.accept();
     Ok(story)
 }
 
-/// Does the steps that a state has not done yet. `done` says how many it has done.
-fn catch_up(ahead: &mut ShardState, steps: &[Step], done: &mut usize) -> Result<(), NoMemory>
-    requires { done.old ≤ length steps.now }
-    ensures within { done.new ≤ length steps.now }
-    ensures later { done.old ≤ done.new }
-    ensures all { OnOk result (done.new ≡ length steps.now) }
-    ensures led { (s : Shard) → ahead.old ≡ shard_after s (take done.old (map step_of steps.now))
-        → ahead.new ≡ shard_after s (take done.new (map step_of steps.now)) }
+/// The second state level with the first and the staged steps: a copy where there is none yet, and else it does the steps
+/// that it lacks.
+fn second(
+    alloc: Global,
+    state: &ShardState,
+    ahead: Option<ShardState>,
+    behind: &[Step],
+    staged: &[Step],
+) -> Result<ShardState, NoMemory>
+    requires { IsAhead state.now ahead (map step_of behind.now) (map step_of staged.now) }
+    ensures ok { IfOk result (λ level. level ≡ shard_after state.now (map step_of staged.now)) }
+    ensures failed { OnErr result (map step_of staged.now ≡ []) }
 {
-    while *done < steps.len() {
-        match ahead.apply(&steps[*done]) {
-            Ok(()) => *done += 1,
-            Err(_) => return Err(NoMemory),
-        }
+    match ahead {
+        None => state.copy(alloc),
+        Some(ahead) => catch_up(ahead, behind),
     }
-    Ok(())
 }
 
-#[cfg(test)]
-mod tests {
-    use super::*;
-    use std::test::Fail;
-
-    // `Clear` fits a shard that is being filled alone, so it needs the step before it.
-    #[test]
-    fn what_is_staged_is_forgotten_or_taken_whole(rt: HostRuntime) -> Result<(), Fail> {
-        let alloc = rt.alloc();
-        let mut story = Story::new(alloc, Geometry { k: 2, unit: 32 });
-        assert_eq!(rt; story.stage(&Step::Clear), Err(StepFault::Misfit));
-        story.stage(&Step::Started(2))?;
-        story.stage(&Step::Partial)?;
-        story.stage(&Step::Clear)?;
-        story.unstage();
-        assert_eq!(rt; story.state().les(), 0);
-        story.stage(&Step::Partial)?;
-        story.stage(&Step::Clear)?;
-        assert!(rt; !story.state().partial());
-        story.accept();
-        assert!(rt; story.state().partial());
-        assert_eq!(rt; story.pending(), 2);
-        Ok(())
+/// A state does steps, each of which fits.
+fn catch_up(ahead: ShardState, steps: &[Step]) -> Result<ShardState, NoMemory>
+    requires { AreFitting ahead (map step_of steps.now) }
+    ensures ok { IfOk result (λ level. level ≡ shard_after ahead (map step_of steps.now)) }
+    ensures failed { OnErr result (0 < length steps.now) }
+{
+    let mut level = ahead;
+    for i in 0..steps.len() {
+        match level.apply(&steps[i]) {
+            Ok(()) => {}
+            Err(StepFault::Misfit) => unreachable!(),
+            Err(StepFault::NoMemory) => return Err(NoMemory),
+        }
     }
+    Ok(level)
 }

@@ -104,13 +104,59 @@ const MADE: u64 = 13;
 
 const FLUSHED: u64 = 6;
 
-/// The last epoch started in the shard that a crash leaves in slot 0.
+/// The last epoch started in the shard that a crash leaves in slot 0, or 0 where it leaves none.
 fn epoch_after_crash(alloc: Global, rig: &MemRig, pick: u8) -> Result<u32, Fail>
     requires { ⟦<MemRig as Rig>⟧.is_here rig.now 0 }
 {
     let mut left = rig.crash(alloc, pick)?;
-    let store = Store::load(alloc, &mut left, 0, GEOMETRY, 3)?;
-    Ok(store.state().les())
+    match Store::load(alloc, &mut left, 0, GEOMETRY, 3) {
+        Ok(store) => Ok(store.state().les()),
+        Err(StoreFault::BadSlot { .. }) => Ok(0),
+        Err(fault) => Err(fault)?,
+    }
+}
+
+#[test]
+fn a_crash_in_a_first_make_leaves_no_shard_or_the_new_one(rt: HostRuntime) -> Result<(), Fail> {
+    let alloc = rt.alloc();
+    for done in 1..=MADE {
+        let mut rig = MemRig::new(alloc)?;
+        rig.stop_after(done);
+        rig.place(0)?;
+        let made = Store::make(alloc, &mut rig, 0, GEOMETRY, 3, false).is_ok();
+        assert_eq!(rt; made, done == MADE);
+        for pick in 0..4 {
+            let epoch = epoch_after_crash(alloc, &rig, pick)?;
+            let none = epoch == 0 && !made;
+            assert!(rt; none || epoch == 1, "{epoch} at {done}, {pick}");
+        }
+    }
+    Ok(())
+}
+
+// The shard of before has started epoch 2, the new one epoch 1.
+#[test]
+fn a_crash_in_a_second_make_leaves_the_old_shard_none_or_the_new_one(
+    rt: HostRuntime,
+) -> Result<(), Fail> {
+    let alloc = rt.alloc();
+    for done in 0..20 {
+        let mut rig = MemRig::new(alloc)?;
+        rig.stop_after(MADE + FLUSHED + done);
+        rig.place(0)?;
+        let mut store = Store::make(alloc, &mut rig, 0, GEOMETRY, 3, false)?;
+        stage(alloc, &mut store, &Step::Started(2))?;
+        store.accept();
+        store.flush(&mut rig)?;
+        let made = Store::make(alloc, &mut rig, 0, GEOMETRY, 3, false).is_ok();
+        for pick in 0..4 {
+            let epoch = epoch_after_crash(alloc, &rig, pick)?;
+            let other = epoch <= 2 && !made;
+            assert!(rt; other || epoch == 1, "{epoch} at {done}, {pick}");
+        }
+        assert!(rt; made || done < 19);
+    }
+    Ok(())
 }
 
 #[test]
@@ -134,6 +180,157 @@ fn a_crash_in_a_flush_leaves_the_steps_of_before_or_all(rt: HostRuntime) -> Resu
     Ok(())
 }
 
+/// An object of 32 equal bytes is put in the place of the one before, as entry `seq` of epoch 2.
+fn filled(alloc: Global, seq: u64, byte: u8) -> Result<Step, Fail>
+    ensures { IfOk result (λ step. HasShortLists (step_of step)) }
+{
+    let prior = match seq {
+        1 => Version { epoch: 0, seq: 0 },
+        _ => Version {
+            epoch: 2,
+            seq: seq.saturating_sub(1),
+        },
+    };
+    Ok(Step::Replace {
+        version: Version { epoch: 2, seq },
+        prior,
+        name: Name::read(alloc, b"a")?,
+        size: 2,
+        bytes: Bytes::of(vec![in alloc; byte; 32]?),
+    })
+}
+
+/// Whether two shards look the same, as far as object `a` and the bounds tell.
+fn same(alloc: Global, one: &ShardState, other: &ShardState) -> Result<bool, Fail> {
+    let a = Name::read(alloc, b"a")?;
+    let bytes = match (one.object(&a), other.object(&a)) {
+        (None, None) => true,
+        (Some(one), Some(other)) => one.bytes.as_slice() == other.bytes.as_slice(),
+        _ => false,
+    };
+    let bounds = one.head() == other.head()
+        && one.firm() == other.firm()
+        && one.tail() == other.tail()
+        && one.les() == other.les();
+    Ok(bytes && bounds && one.log_len() == other.log_len() && one.partial() == other.partial())
+}
+
+// `Clear` fits a shard that is being filled alone, so it needs the step before it.
+#[test]
+fn a_step_is_staged_behind_one_that_it_needs(rt: HostRuntime) -> Result<(), Fail> {
+    let alloc = rt.alloc();
+    let mut rig = MemRig::new(alloc)?;
+    rig.place(0)?;
+    let mut store = Store::make(alloc, &mut rig, 0, GEOMETRY, 3, false)?;
+    assert_eq!(rt;
+        stage(alloc, &mut store, &Step::Clear),
+        Err(StepFault::Misfit)
+    );
+    stage(alloc, &mut store, &Step::Partial)?;
+    stage(alloc, &mut store, &Step::Clear)?;
+    store.accept();
+    assert!(rt; store.state().partial());
+    assert_eq!(rt; store.pending(), 2);
+    Ok(())
+}
+
+#[test]
+fn what_was_forgotten_is_needed_again(rt: HostRuntime) -> Result<(), Fail> {
+    let alloc = rt.alloc();
+    let mut rig = MemRig::new(alloc)?;
+    rig.place(0)?;
+    let mut store = Store::make(alloc, &mut rig, 0, GEOMETRY, 3, false)?;
+    stage(alloc, &mut store, &Step::Partial)?;
+    stage(alloc, &mut store, &Step::Clear)?;
+    store.unstage();
+    assert!(rt; !store.state().partial());
+    assert_eq!(rt; store.pending(), 0);
+    assert_eq!(rt;
+        stage(alloc, &mut store, &Step::Clear),
+        Err(StepFault::Misfit)
+    );
+    Ok(())
+}
+
+/// A shard that has started epoch 1 and done no more.
+fn started(alloc: Global) -> Result<ShardState, Fail> {
+    let mut plain = ShardState::fresh(alloc, GEOMETRY);
+    plain.apply(&Step::Started(1))?;
+    Ok(plain)
+}
+
+// Three are staged and forgotten, and then two of them are taken.
+#[test]
+fn a_second_stage_works_after_three_are_forgotten(rt: HostRuntime) -> Result<(), Fail> {
+    let alloc = rt.alloc();
+    let mut rig = MemRig::new(alloc)?;
+    rig.place(0)?;
+    let mut store = Store::make(alloc, &mut rig, 0, GEOMETRY, 3, false)?;
+    let mut plain = started(alloc)?;
+    let first = filled(alloc, 1, 1)?;
+    let second = filled(alloc, 2, 2)?;
+    stage(alloc, &mut store, &Step::Started(2))?;
+    stage(alloc, &mut store, &first)?;
+    stage(alloc, &mut store, &second)?;
+    store.unstage();
+    assert!(rt; same(alloc, store.state(), &plain)?);
+    stage(alloc, &mut store, &first)?;
+    stage(alloc, &mut store, &second)?;
+    store.accept();
+    plain.apply(&first)?;
+    plain.apply(&second)?;
+    assert!(rt; same(alloc, store.state(), &plain)?);
+    Ok(())
+}
+
+// One is taken with no flush after it, one is forgotten, and then it is taken.
+#[test]
+fn the_state_is_that_of_the_accepted_steps_by_turns(rt: HostRuntime) -> Result<(), Fail> {
+    let alloc = rt.alloc();
+    let mut rig = MemRig::new(alloc)?;
+    rig.place(0)?;
+    let mut store = Store::make(alloc, &mut rig, 0, GEOMETRY, 3, false)?;
+    let mut plain = started(alloc)?;
+    let first = filled(alloc, 1, 1)?;
+    let second = filled(alloc, 2, 2)?;
+    stage(alloc, &mut store, &first)?;
+    store.accept();
+    plain.apply(&first)?;
+    stage(alloc, &mut store, &second)?;
+    store.unstage();
+    assert!(rt; same(alloc, store.state(), &plain)?);
+    stage(alloc, &mut store, &second)?;
+    store.accept();
+    plain.apply(&second)?;
+    assert!(rt; same(alloc, store.state(), &plain)?);
+    Ok(())
+}
+
+#[test]
+fn a_store_is_changed_on_its_shelf(rt: HostRuntime) -> Result<(), Fail> {
+    let alloc = rt.alloc();
+    let mut rig = MemRig::new(alloc)?;
+    rig.place(3)?;
+    let mut shelf = Shelf::new();
+    assert!(rt; shelf.get_mut(3).is_none());
+    shelf.put(3, Store::make(alloc, &mut rig, 3, GEOMETRY, 3, false)?);
+    assert!(rt; shelf.get_mut(2).is_none());
+    match shelf.get_mut(3) {
+        None => assert!(rt; false, "no store"),
+        Some(store) => {
+            stage(alloc, store, &Step::Started(2))?;
+            store.accept();
+        }
+    }
+    match shelf.get(3) {
+        None => assert!(rt; false, "no store"),
+        Some(store) => assert_eq!(rt; store.pending(), 5),
+    }
+    shelf.drop_slot(3);
+    assert!(rt; shelf.get_mut(3).is_none());
+    Ok(())
+}
+
 #[test]
 fn a_shelf_gives_ranges_of_objects_and_counts_them(rt: HostRuntime) -> Result<(), Fail> {
     let alloc = rt.alloc();
@@ -146,18 +343,38 @@ fn a_shelf_gives_ranges_of_objects_and_counts_them(rt: HostRuntime) -> Result<()
     let mut shelf = Shelf::new();
     let name = Name::read(alloc, b"a")?;
     let mut into = [9u8; 2];
-    assert_eq!(rt;
-        shelf.fetch(&mut rig, 0, &name, 1, &mut into),
-        Err(FetchFault::NoSuch)
-    );
+    let none = shelf.fetch(&mut rig, 0, &name, 1, &mut into);
+    assert_eq!(rt; none, Err(FetchFault::NoSuch));
     shelf.put(0, store);
     assert_eq!(rt; shelf.fetch(&mut rig, 0, &name, 1, &mut into), Ok(()));
     assert_eq!(rt; into, [2, 0]);
-    assert_eq!(rt;
-        shelf.fetch(&mut rig, 0, &name, 31, &mut into),
-        Err(FetchFault::NoSuch)
-    );
-    assert_eq!(rt; into, [2, 0]);
     assert_eq!(rt; shelf.fetched(0), 2);
+    assert_eq!(rt; shelf.fetch(&mut rig, 0, &name, 30, &mut into), Ok(()));
+    assert_eq!(rt; shelf.fetched(0), 4);
+    Ok(())
+}
+
+// No such name; then from the object's last byte, its end, the largest place, and behind its end.
+#[test]
+fn a_range_that_leaves_its_object_is_not_there(rt: HostRuntime) -> Result<(), Fail> {
+    let alloc = rt.alloc();
+    let mut rig = MemRig::new(alloc)?;
+    rig.place(0)?;
+    let mut store = Store::make(alloc, &mut rig, 0, GEOMETRY, 3, false)?;
+    let step = full(alloc, 1, 2)?;
+    stage(alloc, &mut store, &step)?;
+    store.accept();
+    let mut shelf = Shelf::new();
+    shelf.put(0, store);
+    let name = Name::read(alloc, b"a")?;
+    let other = Name::read(alloc, b"b")?;
+    let mut two = [9u8; 2];
+    let mut none = [9u8; 0];
+    assert!(rt; shelf.fetch(&mut rig, 0, &other, 1, &mut two).is_err());
+    assert!(rt; shelf.fetch(&mut rig, 0, &name, 31, &mut two).is_err());
+    assert!(rt; shelf.fetch(&mut rig, 0, &name, 32, &mut none).is_ok());
+    assert!(rt; shelf.fetch(&mut rig, 0, &name, u32::MAX, &mut two).is_err());
+    assert!(rt; shelf.fetch(&mut rig, 0, &name, 33, &mut none).is_err());
+    assert_eq!(rt; shelf.fetched(0), 0);
     Ok(())
 }

@@ -1,25 +1,25 @@
-use Rattle.std.proofs.Common.{rules, ◌≡◌, ◌∙◌, ◌∷◌, ◌++◌, [], length, sym, ap, subst, arith}
+use Rattle.std.proofs.Common.{rules, ◌≡◌, ◌≤◌, ◌∙◌, ◌∷◌, ◌++◌, [], length, sym, ap, subst, arith}
 use Rattle.slot_journal.specs.Journal.{slot_of, Holds}
 use Rattle.shard_store.specs.Stories.{AreSpelled, shard_head}
 use Rattle.shard_store.specs.Stored.{head_in}
-use Rattle.shard_store.specs.Told.{Told, flushed_steps, all_flushed}
-use Rattle.shard_store.proofs.StoreLemmas.{unflushed_some, body_more, flush_moments}
+use Rattle.shard_store.specs.Told.{Told, IsTold, unflushed_bytes}
+use Rattle.shard_store.proofs.StoreLemmas.{some_length, pending_alone, body_more, told_flushed, nothing_more, flush_moments, rests}
 use Rattle.shard_store.proofs.store.Store.flush.Goals as goal
 
 pub commit-requires-clause-some : goal.commit-requires-clause-some
 commit-requires-clause-some g c =
     let t = c.args.self.now.story in
-    let some : t.flushed ≡ t.accepted → ⊥ = search rules in
-    omega (arith, ap length c.body.ensures.value, unflushed_some t c.body.ensures.sound c.requires.accepted some)
+    let some : t.pending ≡ [] → ⊥ = search rules in
+    omega (arith, ap length c.body.ensures, ap length (pending_alone t c.requires.accepted), some_length t.pending some)
 
 pub commit-requires-clause-room : goal.commit-requires-clause-room
 commit-requires-clause-room g c =
     let t = c.args.self.now.story in
-    let some : t.flushed ≡ t.accepted → ⊥ = search rules in
-    omega (arith, ap length c.body.ensures.value, unflushed_some t c.body.ensures.sound c.requires.accepted some, c.args.self.now.room)
+    let some : t.pending ≡ [] → ⊥ = search rules in
+    omega (arith, ap length c.body.ensures, ap length (pending_alone t c.requires.accepted), some_length t.pending some, c.args.self.now.room)
 
 pub returns-in-Ok-clause-ok : goal.returns-in-Ok-clause-ok
-returns-in-Ok-clause-ok g c text stored =
+returns-in-Ok-clause-ok g c text flushed pending stored =
     let store = c.args.self.now in
     let t = store.story in
     let reads = g.R.Rig.reads c.commit.new.rig in
@@ -31,23 +31,33 @@ returns-in-Ok-clause-ok g c text stored =
       record {
         bodies = stored.bodies ++ c.body.result.now ∷ [];
         holds = subst (λ h. Holds reads (g.R.Rig.images c.commit.new.rig (g.R.Rig.clock c.commit.new.rig)) c.commit.new.self h (stored.bodies ++ c.body.result.now ∷ []) done.0) head done.1;
-        spelled = subst (λ (x : Told). AreSpelled (stored.bodies ++ c.body.result.now ∷ []) (flushed_steps x)) (sym c.flushed.ensures)
-            (subst (λ b. AreSpelled (stored.bodies ++ b ∷ []) (flushed_steps (all_flushed t))) (sym c.body.ensures.value)
-            (body_more t stored.bodies c.body.ensures.sound c.requires.accepted stored.spelled));
+        spelled = subst (λ b. AreSpelled (stored.bodies ++ b ∷ []) (flushed ++ pending)) (sym c.body.ensures)
+            (body_more t stored.bodies flushed pending c.requires.accepted stored.told stored.spelled);
+        told = subst (λ (x : Told). IsTold x (flushed ++ pending) []) (sym c.flushed.ensures) (told_flushed t flushed pending stored.told);
       },
     )
 
 pub returns-in-Ok-clause-any_moment : goal.returns-in-Ok-clause-any_moment
 returns-in-Ok-clause-any_moment g c =
     flush_moments g.R.Rig.clock g.R.Rig.images c.args.rig.now c.commit.new.rig (g.R.Rig.reads c.args.rig.now) c.args.self.now
-    c.body.ensures.sound c.requires.accepted c.body.result.now c.body.ensures.value c.commit.ensures.any_moment
+    c.requires.accepted c.body.result.now c.body.ensures c.commit.ensures.any_moment
 
 pub returns-in-Err-Failed-clause-any_moment : goal.returns-in-Err-Failed-clause-any_moment
 returns-in-Err-Failed-clause-any_moment g c =
     flush_moments g.R.Rig.clock g.R.Rig.images c.args.rig.now c.commit.new.rig (g.R.Rig.reads c.args.rig.now) c.args.self.now
-    c.body.ensures.sound c.requires.accepted c.body.result.now c.body.ensures.value c.commit.ensures.any_moment
+    c.requires.accepted c.body.result.now c.body.ensures c.commit.ensures.any_moment
 
 pub returns-in-Err-Spent-clause-any_moment : goal.returns-in-Err-Spent-clause-any_moment
 returns-in-Err-Spent-clause-any_moment g c =
     flush_moments g.R.Rig.clock g.R.Rig.images c.args.rig.now c.commit.new.rig (g.R.Rig.reads c.args.rig.now) c.args.self.now
-    c.body.ensures.sound c.requires.accepted c.body.result.now c.body.ensures.value c.commit.ensures.any_moment
+    c.requires.accepted c.body.result.now c.body.ensures c.commit.ensures.any_moment
+
+pub returns-then-is_flushed-clause-ok : goal.returns-then-is_flushed-clause-ok
+returns-then-is_flushed-clause-ok g c text flushed pending stored =
+    let store = c.args.self.now in
+    let empty : store.story.pending ≡ [] = search rules in
+    let more = nothing_more (g.R.Rig.reads c.args.rig.now) (g.R.Rig.images c.args.rig.now (g.R.Rig.clock c.args.rig.now)) store text flushed pending empty stored in
+    (text, record { bodies = more.bodies; holds = more.holds; spelled = more.spelled; told = more.told })
+
+pub returns-then-is_flushed-clause-any_moment : goal.returns-then-is_flushed-clause-any_moment
+returns-then-is_flushed-clause-any_moment g c = rests g.R.Rig.clock g.R.Rig.images c.args.rig.now (g.R.Rig.reads c.args.rig.now) c.args.self.now
