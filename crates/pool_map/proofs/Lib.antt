@@ -2,8 +2,13 @@ mod BodyLemmas
 pub mod CallerLemmas
 mod FaultLemmas
 mod FrontLemmas
+mod HeldLemmas
 mod MakeLemmas
+mod OneMapLemmas
+mod PlainLemmas
+mod RangeLemmas
 mod ReadingLemmas
+mod SoundLemmas
 mod StoryLemmas
 mod TextLemmas
 mod WorkLemmas

@@ -3,7 +3,8 @@ use Rattle.std.proofs.Common.{◌≡◌, ◌≤◌, ◌<◌, ◌^◌, ◌&&◌, 
 use Rattle.std.proofs.lemmas.Bool.{and_parts, cond-false}
 use Rattle.std.proofs.lemmas.List.{append-nil, length-append}
 use Rattle.std.proofs.lemmas.Bool.Decides.{nat_tests}
-use Rattle.std.specs.Str.{is_utf8}
+use Rattle.std.specs.Str.{is_utf8, IsAscii}
+use Rattle.std.proofs.lemmas.Str.{IsUtf8-from_ascii}
 use Rattle.ec_model.specs.Versions.{zero_version}
 use Rattle.ec_code.specs.LrcFaults.{has_number}
 use Rattle.ec_code.specs.JsonProfiles.{begins_object, profile_of_bytes}
@@ -13,6 +14,7 @@ use Rattle.ec_code.specs.declared.fault.ProfileFault.TheVariants as fault
 use Rattle.ec_code.specs.declared.profile.Plugin.{Plugin}
 use Rattle.ec_code.specs.declared.profile.Plugin.TheVariants as plugin
 use Rattle.ec_code.specs.declared.profile.Profile.{Profile as Plain}
+use Rattle.ec_code.proofs.GivenLemmas.{of_settings, of_text}
 use Rattle.ec_words.specs.Intervals.{Interval, with_last_alive}
 use Rattle.plugin_reg.specs.Canonical.{canonical_lines, lines_of, settings_by, lrc_settings, least_of, PrintsAgain}
 use Rattle.shard_model.specs.StepBytes.{version_bytes}
@@ -126,7 +128,16 @@ canonical_again p own k n lead lines is prints read =
       same_unit = refl;
     })
 
-pub first_gives : (p own : Plain) (k n lead : ℕ) (lines body : List ℕ) → 1 ≤ n → n ≤ 16 → length lines ≤ 65536 → lines ≡ canonical_lines p k n
+-- the canonical lines are read back, and not refused
+pub read_back : (p : Plain) (k n lead : ℕ) (lines : List ℕ) → lines ≡ canonical_lines p k n → IsAscii lines → (prints : PrintsAgain lines k n lead) → profile_of_bytes lines ≡ Ok prints.again
+read_back p k n lead lines is ascii prints =
+    of_settings lines (ap begins_object is ∙ not_object_by p.plugin p k n) ∙ of_text lines (IsUtf8-from_ascii lines ascii) ∙ prints.read
+
+pub not_refused : (p : Plain) (k n lead : ℕ) (lines : List ℕ) (f : ProfileFault) → lines ≡ canonical_lines p k n → IsAscii lines → PrintsAgain lines k n lead
+    → profile_of_bytes lines ≡ Err f → ⊥
+not_refused p k n lead lines f is ascii prints refused = no_ok f prints.again (sym refused ∙ read_back p k n lead lines is ascii prints)
+
+pub first_gives : (p own : Plain) (k n lead : ℕ) (lines body : List ℕ) → 1 ≤ n → n ≤ 16 → length lines ≤ 4000 → lines ≡ canonical_lines p k n
     → PrintsAgain lines k n lead → profile_of_bytes lines ≡ Ok own
     → body ≡ step_bytes (Profile lines) ++ (step_bytes (Begin 1 (all_of n)) ++ step_bytes (Alive 1 (all_of n) zero_version))
     → IsMapOf k own.stripe_unit (body ∷ []) (new_map own n)
@@ -142,8 +153,8 @@ first_gives p own k n lead lines body some few short is prints read bytes = reco
   first_clean = refl;
 }
 
-pub body_short : (n : ℕ) (lines body : List ℕ) → length lines ≤ 65536
-    → body ≡ step_bytes (Profile lines) ++ (step_bytes (Begin 1 (all_of n)) ++ step_bytes (Alive 1 (all_of n) zero_version)) → length body ≤ 70000
+pub body_short : (n : ℕ) (lines body : List ℕ) → length lines ≤ 4000
+    → body ≡ step_bytes (Profile lines) ++ (step_bytes (Begin 1 (all_of n)) ++ step_bytes (Alive 1 (all_of n) zero_version)) → length body ≤ 4031
 unfolding version_bytes
 body_short n lines body short is =
     omega (arith, short, ap length is, length-append (step_bytes (Profile lines)) (first_steps n), length-append (step_bytes (Begin 1 (all_of n))) (step_bytes (Alive 1 (all_of n) zero_version)))

@@ -1,6 +1,8 @@
 pub mod Faults
+pub mod Laws
 pub mod Maps
 pub mod Meanings
 pub mod Pool
+pub mod Sound
 pub mod StepReading
 pub mod Steps

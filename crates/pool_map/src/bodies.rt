@@ -1,5 +1,5 @@
 //! The map that the bodies of a text's records are.
-ghost use Rattle.std.specs.Prelude.{◌≡◌, ◌⊎◌, ◌≤◌, ◌<◌, ◌++◌, ◌∷◌, ℕ, List, IfOk, IfErr, Err, length, slice_index_or};
+ghost use Rattle.std.specs.Prelude.{◌≡◌, ◌≢◌, ◌⊎◌, ◌≤◌, ◌<◌, ◌++◌, ◌∷◌, ℕ, List, IfOk, IfErr, Err, length, slice_index_or};
 ghost use Rattle.ec_code.specs.Profiles.{name_of};
 ghost use Rattle.ec_code.specs.Refusals.{IsCodeOf};
 ghost use Rattle.shard_model.specs.StepBytes.{IsCounted};
@@ -73,7 +73,12 @@ pub(crate) fn read_map(
     ensures bad { result ≡ Err MapFault.BadMap → (m : PoolImage) → m.n ≡ n → IsMapOf k unit bodies.now m → ⊥ }
     ensures plain { IfErr result (λ fault. (fault ≡ MapFault.BadMap) ⊎ (fault ≡ MapFault.NoMemory)) }
     ensures below { IfOk result (λ read. read.1.index < length codes.new) }
+    ensures named { IfOk result (λ read. (d : _) → plugin_name (slice_index_or codes.old read.1.index d) ≡ name_of read.1.profile.plugin) }
+    ensures first { IfOk result (λ read. (j : ℕ) (d : _) → j < read.1.index
+        → plugin_name (slice_index_or codes.old j d) ≢ name_of read.1.profile.plugin) }
     ensures made { IfOk result (λ read. (d : _) → IsCodeOf read.1.profile (meaning (slice_index_or codes.new read.1.index d))) }
+    ensures positions { IfOk result (λ read. (d : _) → (meaning (slice_index_or codes.new read.1.index d)).n ≡ n) }
+    ensures others { IfOk result (λ read. (j : ℕ) (d : _) → j ≢ read.1.index → slice_index_or codes.new j d ≡ slice_index_or codes.old j d) }
     ensures boxes { length codes.new ≡ length codes.old }
     ensures kept { (j : ℕ) (d : _) → plugin_name (slice_index_or codes.new j d) ≡ plugin_name (slice_index_or codes.old j d) }
 {

@@ -12,11 +12,10 @@ ghost use Rattle.pool_map.specs.Steps.{step_bytes};
 ghost use Rattle.pool_map.specs.Steps as steps;
 
 use crate::MapFault;
-use crate::limits::MAX_LINES;
 use crate::steps::{alive_bytes, begin_bytes};
 use ec_code::{Profile, Shape};
 use ec_words::{Bytes, Mask, NoMemory, Version, put_bytes, put_u32};
-use plugin_reg::{print_profile, read_any};
+use plugin_reg::{RegFault, print_profile, read_any};
 use std::alloc::Global;
 
 /// A new pool's profile, as its lines are read, and the body of its map's first record.
@@ -37,7 +36,7 @@ pub(crate) fn all_of(n: u8) -> Mask
 /// The bytes of the profile's step, and of those of the first interval.
 fn body_of(alloc: Global, lines: &[u8], n: u8) -> Result<Bytes, NoMemory>
     requires few { n ≤ 16 }
-    requires short { length lines.now ≤ 65536 }
+    requires short { length lines.now ≤ 4000 }
     ensures { IfOk result (λ body. body ≡ step_bytes (steps.Profile lines.now)
         ++ (step_bytes (steps.Begin 1 (all_of n)) ++ step_bytes (steps.Alive 1 (all_of n) zero_version))) }
 {
@@ -54,8 +53,7 @@ fn body_of(alloc: Global, lines: &[u8], n: u8) -> Result<Bytes, NoMemory>
     Ok(body)
 }
 
-/// The first record of a new pool's map. The lines of an accepted profile are few and are read back, so that want of memory
-/// is all that it fails by.
+/// The first record of a new pool's map. The lines of an accepted profile are short and are read back.
 pub(crate) fn first_body(
     alloc: Global,
     profile: &Profile,
@@ -64,23 +62,20 @@ pub(crate) fn first_body(
     requires accepted { IsAccepted profile.now }
     requires writable { IsWritable profile.now }
     requires shape { (code : CodeRows) × IsCodeOf profile.now code × HasShape code shape.k shape.n shape.lead }
-    requires some { 1 ≤ shape.n }
-    requires few { shape.n ≤ 16 }
     ensures ok { IfOk result (λ first. IsMapOf shape.k first.profile.stripe_unit (first.body ∷ []) (new_map first.profile shape.n)) }
     ensures new { IfOk result (λ first. profile_of_bytes (canonical_lines profile.now shape.k shape.n) ≡ Ok first.profile) }
     ensures some { IfOk result (λ first. 1 ≤ length first.body) }
-    ensures short { IfOk result (λ first. length first.body ≤ 70000) }
+    ensures short { IfOk result (λ first. length first.body ≤ 4031) }
+    ensures few { IfOk result (λ first. shape.n ≤ 16) }
     ensures plain { IfErr result (λ fault. fault ≡ MapFault.NoMemory) }
 {
     let lines = print_profile(alloc, profile, shape)?;
-    if lines.as_slice().len() > MAX_LINES {
-        return Err(MapFault::NoMemory);
-    }
     match read_any(alloc, lines.as_slice()) {
         Ok(own) => {
             let body = body_of(alloc, lines.as_slice(), shape.n)?;
             Ok(FirstBody { profile: own, body })
         }
-        Err(_) => Err(MapFault::NoMemory),
+        Err(RegFault::Profile(_)) => unreachable!(),
+        Err(RegFault::NoMemory) => Err(MapFault::NoMemory),
     }
 }

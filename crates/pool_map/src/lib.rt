@@ -13,6 +13,7 @@ mod bodies;
 mod fault;
 mod first;
 mod front;
+mod laws;
 mod limits;
 mod loading;
 mod making;
@@ -20,6 +21,8 @@ mod map;
 mod profiles;
 mod reading;
 mod replay;
+#[cfg(test)]
+mod samples;
 mod step;
 mod steps;
 mod story;
@@ -27,5 +30,6 @@ mod text;
 mod work;
 
 pub use fault::MapFault;
+pub use laws::{maps_are_sound, maps_stay_held, texts_have_one_map};
 pub use limits::{BEGIN_ROOM, MAP_SLOT, MARK_ROOM};
 pub use map::PoolMap;

@@ -11,6 +11,3 @@ pub const BEGIN_ROOM: u64 = 1 << 27;
 
 /// A mark is written only where the text may still grow by this.
 pub const MARK_ROOM: u64 = 1 << 26;
-
-/// More bytes than the canonical lines of any accepted profile have.
-pub(crate) const MAX_LINES: usize = 1 << 16;

@@ -1,7 +1,8 @@
 //! A pool's map from its slot.
-ghost use Rattle.std.specs.Prelude.{◌≡◌, ◌≤◌, ◌<◌, ℕ, List, length, slice_index_or, Some, IfOk, IfErr, Ok, Err, IsTrue, true, false};
+ghost use Rattle.std.specs.Prelude.{◌≡◌, ◌≢◌, ◌⊎◌, ◌≤◌, ◌<◌, ℕ, List, length, slice_index_or, Some, IfOk, IfErr, OnOk, Ok, Err, IsTrue, true, false};
 ghost use Rattle.ec_code.specs.Profiles.{name_of};
 ghost use Rattle.ec_code.specs.Refusals.{IsCodeOf};
+ghost use Rattle.rig_disk.specs.During.{Only};
 ghost use Rattle.slot_journal.specs.InUse.{told_text};
 ghost use Rattle.slot_journal.specs.Journal.{IsSettledWhereTold, is_spent};
 ghost use Rattle.slot_journal.specs.Reading.{OnlyReads};
@@ -21,8 +22,8 @@ use slot_journal::{HEADER_LEN, texts_have_one_reading};
 use std::alloc::Global;
 
 impl PoolMap {
-    /// Reads the map from its slot, and makes a box the code of its profile; the box's number is answered too. `codes` has
-    /// a box of each plugin. After a refusal a box may be another code than before.
+    /// Reads the map from its slot, and makes the first box of its profile's plugin the code of the profile; the box's number is
+    /// answered too. `codes` has a box of each plugin. After a refusal a box may be another code than before.
     pub fn load<R: Rig>(
         alloc: Global,
         rig: &mut R,
@@ -40,9 +41,18 @@ impl PoolMap {
             → told_text (R.reads rig.old 16) ≡ Some text → IsNoPool text }
         ensures nowhere { (R.is_here rig.old 16 → ⊥) → result ≡ Err MapFault.NoPool }
         ensures long { IfOk result (λ read. (text : List ℕ) → told_text (R.reads rig.old 16) ≡ Some text → 24 ≤ length text) }
+        ensures short { R.is_here rig.old 16 → (text : List ℕ) → told_text (R.reads rig.old 16) ≡ Some text → IsNoPool text
+            → (result ≡ Err MapFault.NoPool) ⊎ (result ≡ Err MapFault.Failed) }
         ensures plain { IfErr result (λ fault. (fault ≡ MapFault.Worn) → ⊥) }
+
+        // The box is the one that `pick` gives for the map's profile.
         ensures below { IfOk result (λ read. read.1 < length codes.new) }
+        ensures named { IfOk result (λ read. (d : _) → plugin_name (slice_index_or codes.old read.1 d) ≡ name_of (map_of read.0).profile.plugin) }
+        ensures first { IfOk result (λ read. (j : ℕ) (d : _) → j < read.1
+            → plugin_name (slice_index_or codes.old j d) ≢ name_of (map_of read.0).profile.plugin) }
         ensures made { IfOk result (λ read. (d : _) → IsCodeOf (map_of read.0).profile (meaning (slice_index_or codes.new read.1 d))) }
+        ensures positions { IfOk result (λ read. (d : _) → (meaning (slice_index_or codes.new read.1 d)).n ≡ (map_of read.0).n) }
+        ensures others { IfOk result (λ read. (j : ℕ) (d : _) → j ≢ read.1 → slice_index_or codes.new j d ≡ slice_index_or codes.old j d) }
         ensures boxes { length codes.new ≡ length codes.old }
         ensures names { (j : ℕ) (d : _) → plugin_name (slice_index_or codes.new j d) ≡ plugin_name (slice_index_or codes.old j d) }
         ensures only_if_fault { HasMapCause (R.faults rig.old 16) (R.faults rig.new 16) result }
@@ -78,6 +88,8 @@ impl PoolMap {
         ensures no_pool { IfOk result (λ is. is ≡ false → R.is_here rig.old 16 → (text : List ℕ)
             → told_text (R.reads rig.old 16) ≡ Some text → IsNoPool text) }
         ensures nowhere { (R.is_here rig.old 16 → ⊥) → result ≡ Ok false }
+        ensures durable { OnOk result (R.is_here rig.old 16 → (there : List ℕ) → R.reads rig.new 16 0 ≡ Some there
+            → Only R.clock R.images rig.new 16 0 there) }
         ensures faults { IfErr result (λ fault. fault ≡ MapFault.Failed) }
         ensures only_if_fault { HasMapCause (R.faults rig.old 16) (R.faults rig.new 16) result }
         ensures kept { OnlyReads R.is_here R.reads R.said R.clock R.images R.faults R.syncs R.bytes_written R.bytes_read
@@ -90,3 +102,6 @@ impl PoolMap {
         Ok(read_front(rig, &mut front)?)
     }
 }
+
+#[cfg(test)]
+mod tests;

@@ -53,8 +53,6 @@ impl PoolMap {
         requires accepted { IsAccepted profile.now }
         requires writable { IsWritable profile.now }
         requires shape { (code : CodeRows) × IsCodeOf profile.now code × HasShape code shape.k shape.n shape.lead }
-        requires some { 1 ≤ shape.n }
-        requires few { shape.n ≤ 16 }
 
         ensures ok { IfOk result (λ map. (text : List ℕ) → told_text (R.reads rig.old 16) ≡ Some text
             → (after : List ℕ) × HoldsMap (R.reads rig.new) (R.images rig.new (R.clock rig.new)) (journal_of map) (map_of map) after) }
@@ -66,7 +64,7 @@ impl PoolMap {
         ensures only_if_fault { HasMapCause (R.faults rig.old 16) (R.faults rig.new 16) result }
         ensures any_moment { During R.clock R.images rig.old rig.new (InSlot (R.images rig.old (R.clock rig.old)) 16
             (MakesMap (R.reads rig.old 16) profile.now shape.k shape.n)) }
-        ensures counts { Spends R.syncs R.bytes_written R.bytes_read 16 4 70031 1 rig.old rig.new }
+        ensures counts { Spends R.syncs R.bytes_written R.bytes_read 16 4 4062 1 rig.old rig.new }
         ensures kept { KeepsOthers R.is_here R.reads R.said R.faults R.syncs R.bytes_written R.bytes_read
             16 0 rig.old rig.new }
     {
@@ -90,3 +88,6 @@ impl PoolMap {
         })
     }
 }
+
+#[cfg(test)]
+mod tests;

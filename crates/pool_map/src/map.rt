@@ -1,6 +1,8 @@
 //! The map of a pool, as it is worked with.
 ghost use Rattle.std.specs.Prelude.{◌≡◌, ◌≤◌, true};
 ghost use Rattle.slot_journal.specs.Journal.{slot_of, room_of};
+ghost use Rattle.pool_map.specs.Meanings.{meant};
+ghost use Rattle.pool_map.specs.Sound.{IsSound};
 
 use crate::story::Story;
 use ec_code::Profile;
@@ -17,4 +19,5 @@ pub struct PoolMap {
     pub(crate) began: bool,
     ghost own_slot: { slot_of journal ≡ 16 },
     ghost has_room: { began ≡ true → 64 ≤ room_of journal },
+    ghost sound: { IsSound story.n (meant story) },
 }

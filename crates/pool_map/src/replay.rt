@@ -87,7 +87,7 @@ impl Story {
     }
 
     /// Whether a step fits behind these.
-    fn fits(&self, step: &Step) -> bool
+    pub fn fits(&self, step: &Step) -> bool
         ensures { result ≡ fits self.now.n (meant self.now) (step_of step.now) }
     {
         match step {

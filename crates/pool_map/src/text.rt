@@ -78,6 +78,7 @@ pub(crate) fn load_text<R: Rig>(alloc: Global, rig: &mut R) -> Result<MapText, M
     ensures bad { result ≡ Err MapFault.BadMap → (text : List ℕ) → told_text (R.reads rig.old 16) ≡ Some text → (24 ≤ length text)
         × ((k n unit : ℕ) (bodies : List (List ℕ)) (place : ℕ) → IsWord unit → IsText (map_head k n unit) bodies place text → ⊥) }
     ensures no_pool { result ≡ Err MapFault.NoPool → (text : List ℕ) → told_text (R.reads rig.old 16) ≡ Some text → IsNoPool text }
+    ensures no_memory { result ≡ Err MapFault.NoMemory → (text : List ℕ) → told_text (R.reads rig.old 16) ≡ Some text → 24 ≤ length text }
     ensures plain { IfErr result (λ fault. (fault ≡ MapFault.Worn) → ⊥) }
     ensures only_if_fault { HasMapCause (R.faults rig.old 16) (R.faults rig.new 16) result }
     ensures kept { OnlyReads R.is_here R.reads R.said R.clock R.images R.faults R.syncs R.bytes_written R.bytes_read

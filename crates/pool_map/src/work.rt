@@ -1,11 +1,14 @@
 //! What is asked of a pool's map, and what is written to it.
-ghost use Rattle.std.specs.Prelude.{◌≡◌, ◌≤◌, ◌<◌, ◌⊎◌, ◌↔◌, ◌+◌, ◌^◌, ◌++◌, ◌∷◌, [], ℕ, List, true, false, IfOk, IfErr, OnOk, OnErr, Err, if◌then◌else◌};
+ghost use Rattle.std.specs.Prelude.{◌≡◌, ◌≤◌, ◌<◌, ◌⊎◌, ◌↔◌, ◌+◌, ◌^◌, ◌++◌, ◌∷◌, [], ℕ, List, true, false, IfOk, IfErr, IsTrue, OnOk, OnErr, Err, if◌then◌else◌};
+ghost use Rattle.ec_model.specs.Codes.{LiesBelow};
+ghost use Rattle.auth_log.specs.Choice.{JoinedLieBelow};
 ghost use Rattle.rig_disk.specs.During.{During};
 ghost use Rattle.rig_disk.specs.Frame.{Spends, KeepsOthers};
 ghost use Rattle.slot_journal.specs.Journal.{IsSettledWhereTold, InSlot, is_spent, room_of};
 ghost use Rattle.pool_map.specs.Faults.{HasMapCause};
 ghost use Rattle.pool_map.specs.Maps.{fits, story_of, last_epoch, epoch_limit};
 ghost use Rattle.pool_map.specs.Pool.{journal_of, map_of, has_begun, HoldsMap, map_after, Steps, IsWorn};
+ghost use Rattle.pool_map.specs.Sound.{IsSound};
 ghost use Rattle.pool_map.specs.Steps as steps;
 ghost use Rattle.ec_words.specs.Intervals.{Interval as Meant};
 
@@ -25,16 +28,19 @@ impl PoolMap {
         &self.profile
     }
 
-    /// The intervals so far.
+    /// The intervals so far, among which a choice may be made.
     pub fn intervals(&self) -> &Intervals
-        ensures { result.now ≡ (map_of self.now).intervals }
+        ensures value { result.now ≡ (map_of self.now).intervals }
+        ensures sound { IsSound (map_of self.now).n (story_of (map_of self.now)) }
+        ensures joined { JoinedLieBelow (map_of self.now).n result.now }
     {
         &self.story.intervals
     }
 
     /// The slots that are marked as down.
     pub fn marked(&self) -> Mask
-        ensures { result.0 ≡ (map_of self.now).marks }
+        ensures value { result.0 ≡ (map_of self.now).marks }
+        ensures below { LiesBelow (map_of self.now).n result.0 }
     {
         self.story.marked
     }
@@ -69,7 +75,7 @@ impl PoolMap {
             16 0 rig.old rig.new }
     {
         let last = last_epoch(self.story.intervals.as_slice());
-        if last >= u32::MAX - 1 || self.journal.room() < BEGIN_ROOM {
+        if is_worn(last, self.journal.room()) {
             return Err(MapFault::Worn);
         }
         let epoch = last + 1;
@@ -167,6 +173,14 @@ impl PoolMap {
         self.story.marked = with_mark(slot, byte, self.story.marked);
         Ok(())
     }
+}
+
+/// Whether no interval may begin behind one of this epoch, with this room.
+fn is_worn(last: u32, room: u64) -> bool
+    ensures worn { IsTrue result → (epoch_limit ≤ last + 1) ⊎ (room < 2 ^ 27) }
+    ensures fine { result ≡ false → (last + 1 < epoch_limit) × (2 ^ 27 ≤ room) }
+{
+    last >= u32::MAX - 1 || room < BEGIN_ROOM
 }
 
 /// Takes the last interval away.

@@ -29,3 +29,7 @@ returns-clause-numbers g c = λ text told k n unit bodies place word is.
 pub returns-clause-long : goal.returns-clause-long
 returns-clause-long g c = λ text told.
     (open_told (g.R.Rig.reads c.args.rig.now 16 0) text c.read_front.new.front told (c.in_ok-read_front.ensures.some (search rules))).0
+
+pub returns-in_err-journal-clause-no_memory : goal.returns-in_err-journal-clause-no_memory
+returns-in_err-journal-clause-no_memory g c = λ e text told.
+    (open_told (g.R.Rig.reads c.args.rig.now 16 0) text c.read_front.new.front told (c.in_ok-read_front.ensures.some (search rules))).0

@@ -2,10 +2,13 @@ use Rattle.std.proofs.Common.{rules, ◌≡◌, ℕ, List, ap, sym, subst, ◌�
 use Rattle.ec_words.specs.Intervals.{Interval}
 use Rattle.rig_disk.specs.During.{During}
 use Rattle.slot_journal.specs.Journal.{InSlot}
+use Rattle.pool_map.specs.Meanings.{meant}
+use Rattle.pool_map.specs.Sound.{IsSound}
 use Rattle.pool_map.specs.Maps.{last_epoch, with_story}
 use Rattle.pool_map.specs.Pool.{journal_of, map_of, HoldsMap, Steps}
 use Rattle.pool_map.specs.Steps.{Alive, step_bytes, IsWritable}
 use Rattle.pool_map.proofs.WorkLemmas.{held_on, step_moments}
+use Rattle.pool_map.proofs.SoundLemmas.{step_sound}
 use Rattle.pool_map.proofs.map.PoolMap.alive.Goals as goal
 
 pub returns-in_err-commit-clause-any_moment : goal.returns-in_err-commit-clause-any_moment
@@ -42,3 +45,9 @@ returns-clause-any_moment g c =
     c.args.self.now.own_slot
     (step_moments (map_of c.args.self.now) s c.alive_bytes.result body writable c.requires.fits g.R.Rig.clock g.R.Rig.images (g.R.Rig.reads c.args.rig.now) c.args.self.now.journal _
     c.args.rig.now c.commit.new.rig c.commit.ensures.any_moment)
+
+pub invariant_of-self-3-clause-sound : goal.invariant_of-self-3-clause-sound
+invariant_of-self-3-clause-sound g c =
+    let story = c.args.self.now.story in
+    subst (λ (ivs : List Interval). IsSound story.n (record { intervals = ivs; marks = story.marked.0 })) (sym c.set_last_alive.ensures)
+    (step_sound story.n (meant story) (Alive (last_epoch story.intervals) c.args.joined.0 c.args.base) c.args.self.now.sound c.requires.fits)

@@ -2,14 +2,17 @@ use Rattle.std.proofs.Common.{rules, ◌≡◌, ◌+◌, ◌<◌, ◌++◌, ◌�
 use Rattle.ec_words.specs.Intervals.{Interval}
 use Rattle.rig_disk.specs.During.{During}
 use Rattle.slot_journal.specs.Journal.{InSlot}
+use Rattle.pool_map.specs.Meanings.{meant}
+use Rattle.pool_map.specs.Sound.{IsSound}
 use Rattle.pool_map.specs.Maps.{begun, last_epoch, epoch_limit, story_of, with_story}
 use Rattle.pool_map.specs.Pool.{journal_of, map_of, HoldsMap, Steps}
 use Rattle.pool_map.specs.Steps.{Begin, step_bytes, IsWritable}
 use Rattle.pool_map.proofs.WorkLemmas.{held_on, step_moments, unmoved, begin_fits}
+use Rattle.pool_map.proofs.SoundLemmas.{step_sound}
 use Rattle.pool_map.proofs.map.PoolMap.begin.Goals as goal
 
-pub returns-then-last-clause-any_moment : goal.returns-then-last-clause-any_moment
-returns-then-last-clause-any_moment g c = unmoved g.R.Rig.clock g.R.Rig.images (g.R.Rig.reads c.args.rig.now) c.args.self.now.journal c.args.self.now.own_slot (map_of c.args.self.now) (Begin (last_epoch c.args.self.now.story.intervals + 1) c.args.up.0) c.args.rig.now
+pub returns-then-is_worn-clause-any_moment : goal.returns-then-is_worn-clause-any_moment
+returns-then-is_worn-clause-any_moment g c = unmoved g.R.Rig.clock g.R.Rig.images (g.R.Rig.reads c.args.rig.now) c.args.self.now.journal c.args.self.now.own_slot (map_of c.args.self.now) (Begin (last_epoch c.args.self.now.story.intervals + 1) c.args.up.0) c.args.rig.now
 
 pub returns-in_err-push-clause-any_moment : goal.returns-in_err-push-clause-any_moment
 returns-in_err-push-clause-any_moment g c = unmoved g.R.Rig.clock g.R.Rig.images (g.R.Rig.reads c.args.rig.now) c.args.self.now.journal c.args.self.now.own_slot (map_of c.args.self.now) (Begin (last_epoch c.args.self.now.story.intervals + 1) c.args.up.0) c.args.rig.now
@@ -19,7 +22,7 @@ returns-in-Ok-clause-ok g c = λ text held.
     let images = g.R.Rig.images c.args.rig.now (g.R.Rig.clock c.args.rig.now) in
     let m = map_of c.args.self.now in
     let last : c.last_epoch-last.result ≡ last_epoch c.args.self.now.story.intervals = c.last_epoch-last.ensures ∙ ap last_epoch c.as_slice.ensures in
-    let below : last_epoch c.args.self.now.story.intervals + 1 < epoch_limit = omega (arith, last, c.if-last.false) in
+    let below : last_epoch c.args.self.now.story.intervals + 1 < epoch_limit = omega (arith, last, (c.is_worn.ensures.fine c.if-is_worn.false).0) in
     let s = Begin (last_epoch c.args.self.now.story.intervals + 1) c.args.up.0 in
     let body : c.begin_bytes.result ≡ step_bytes s = c.begin_bytes.ensures ∙ ap (λ e. step_bytes (Begin (e + 1) c.args.up.0)) last in
     let writable : IsWritable s = search rules in
@@ -34,7 +37,7 @@ returns-in-Ok-clause-any_moment g c =
     let images = g.R.Rig.images c.args.rig.now (g.R.Rig.clock c.args.rig.now) in
     let m = map_of c.args.self.now in
     let last : c.last_epoch-last.result ≡ last_epoch c.args.self.now.story.intervals = c.last_epoch-last.ensures ∙ ap last_epoch c.as_slice.ensures in
-    let below : last_epoch c.args.self.now.story.intervals + 1 < epoch_limit = omega (arith, last, c.if-last.false) in
+    let below : last_epoch c.args.self.now.story.intervals + 1 < epoch_limit = omega (arith, last, (c.is_worn.ensures.fine c.if-is_worn.false).0) in
     let s = Begin (last_epoch c.args.self.now.story.intervals + 1) c.args.up.0 in
     let body : c.begin_bytes.result ≡ step_bytes s = c.begin_bytes.ensures ∙ ap (λ e. step_bytes (Begin (e + 1) c.args.up.0)) last in
     let writable : IsWritable s = search rules in
@@ -48,7 +51,7 @@ returns-in-Err-clause-any_moment g c =
     let images = g.R.Rig.images c.args.rig.now (g.R.Rig.clock c.args.rig.now) in
     let m = map_of c.args.self.now in
     let last : c.last_epoch-last.result ≡ last_epoch c.args.self.now.story.intervals = c.last_epoch-last.ensures ∙ ap last_epoch c.as_slice.ensures in
-    let below : last_epoch c.args.self.now.story.intervals + 1 < epoch_limit = omega (arith, last, c.if-last.false) in
+    let below : last_epoch c.args.self.now.story.intervals + 1 < epoch_limit = omega (arith, last, (c.is_worn.ensures.fine c.if-is_worn.false).0) in
     let s = Begin (last_epoch c.args.self.now.story.intervals + 1) c.args.up.0 in
     let body : c.begin_bytes.result ≡ step_bytes s = c.begin_bytes.ensures ∙ ap (λ e. step_bytes (Begin (e + 1) c.args.up.0)) last in
     let writable : IsWritable s = search rules in
@@ -56,3 +59,12 @@ returns-in-Err-clause-any_moment g c =
     c.args.self.now.own_slot
     (step_moments m s c.begin_bytes.result body writable (begin_fits m.n (story_of m) c.args.up.0 below c.requires.below) g.R.Rig.clock g.R.Rig.images (g.R.Rig.reads c.args.rig.now) c.args.self.now.journal _
     c.args.rig.now c.commit.new.rig c.commit.ensures.any_moment)
+
+pub invariant_of-self-in-Ok-clause-sound : goal.invariant_of-self-in-Ok-clause-sound
+invariant_of-self-in-Ok-clause-sound g c =
+    let story = c.args.self.now.story in
+    let last : c.last_epoch-last.result ≡ last_epoch story.intervals = c.last_epoch-last.ensures ∙ ap last_epoch c.as_slice.ensures in
+    let below : last_epoch story.intervals + 1 < epoch_limit = omega (arith, last, (c.is_worn.ensures.fine c.if-is_worn.false).0) in
+    subst (λ (ivs : List Interval). IsSound story.n (record { intervals = ivs; marks = story.marked.0 }))
+    (ap (λ e. story.intervals ++ begun e c.args.up.0 ∷ []) (ap (λ e. e + 1) (sym last)) ∙ sym c.in_ok-push.ensures.ok)
+    (step_sound story.n (meant story) (Begin (last_epoch story.intervals + 1) c.args.up.0) c.args.self.now.sound (begin_fits story.n (meant story) c.args.up.0 below c.requires.below))

@@ -4,6 +4,7 @@ use Rattle.pool_map.specs.Maps.{map_head, IsMapOf}
 use Rattle.pool_map.specs.Meanings.{image_of}
 use Rattle.pool_map.specs.declared.fault.MapFault.TheVariants.{BadMap}
 use Rattle.pool_map.proofs.FaultLemmas.{err_by}
+use Rattle.pool_map.proofs.SoundLemmas.{map_sound}
 use Rattle.pool_map.proofs.map.PoolMap.load.Goals as goal
 
 pub returns-in_err-text-clause-bad_map : goal.returns-in_err-text-clause-bad_map
@@ -38,3 +39,8 @@ returns-clause-ok g c = λ text told.
           (map_head read.numbers.k n read.numbers.unit) read.bodies text) (sym c.in_ok-story.ensures.n) (c.in_ok-text.ensures.ok text told);
       gives = subst (λ (bs : List (List ℕ)). IsMapOf read.numbers.k read.numbers.unit bs image) c.as_slice.ensures c.in_ok-story.ensures.ok;
     }
+
+pub invariant_of-map-clause-sound : goal.invariant_of-map-clause-sound
+invariant_of-map-clause-sound g c =
+    let numbers = c.in_ok-text.text.numbers in
+    map_sound numbers.k numbers.unit c.as_slice.result.now (image_of c.in_ok-story.opened.profile c.in_ok-story.story) c.in_ok-story.ensures.ok

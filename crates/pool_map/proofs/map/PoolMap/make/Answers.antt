@@ -1,7 +1,11 @@
-use Rattle.std.proofs.Common.{rules, ◌∷◌, [], sym, subst}
+use Rattle.std.proofs.Common.{rules, ◌∷◌, [], ℕ, List, Some, ap, sym, subst, ◌∙◌}
+use Rattle.ec_model.specs.Versions.{zero_version}
+use Rattle.ec_words.specs.Intervals.{Interval}
 use Rattle.shard_model.specs.StepBytes.{IsWord}
 use Rattle.pool_map.specs.Maps.{IsMapOf}
 use Rattle.pool_map.specs.Pool.{new_map}
+use Rattle.pool_map.specs.Sound.{IsSound}
+use Rattle.pool_map.proofs.SoundLemmas.{map_sound}
 use Rattle.pool_map.proofs.WorkLemmas.{make_moments}
 use Rattle.pool_map.proofs.map.PoolMap.make.Goals as goal
 
@@ -22,3 +26,10 @@ returns-clause-any_moment g c =
     c.map_head-head.result c.as_slice.result.now word c.map_head-head.ensures c.in_ok-first.ensures.new
     (subst (λ b. IsMapOf c.args.shape.k first.profile.stripe_unit (b ∷ []) (new_map first.profile c.args.shape.n)) (sym c.as_slice.ensures) c.in_ok-first.ensures.ok)
     c.make.ensures.any_moment
+
+pub invariant_of-result-2-clause-sound : goal.invariant_of-result-2-clause-sound
+invariant_of-result-2-clause-sound g c =
+    let n = c.args.shape.n in
+    let alone : ℕ → List Interval = λ all. record { epoch = 1; up = all; alive = Some (all, zero_version) } ∷ [] in
+    subst (λ (ivs : List Interval). IsSound n (record { intervals = ivs; marks = 0 })) (sym (c.in_ok-intervals.ensures ∙ ap alone c.all_of.ensures))
+    (map_sound c.args.shape.k c.in_ok-first.first.profile.stripe_unit (c.in_ok-first.first.body ∷ []) (new_map c.in_ok-first.first.profile n) c.in_ok-first.ensures.ok)

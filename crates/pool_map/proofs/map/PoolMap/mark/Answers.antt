@@ -1,10 +1,13 @@
 use Rattle.std.proofs.Common.{rules, ◌≡◌, ℕ, List, if◌then◌else◌, ap, sym, subst, ◌∙◌}
 use Rattle.rig_disk.specs.During.{During}
 use Rattle.slot_journal.specs.Journal.{InSlot}
+use Rattle.pool_map.specs.Meanings.{meant}
+use Rattle.pool_map.specs.Sound.{IsSound}
 use Rattle.pool_map.specs.Maps.{story_of, with_mark, with_story}
 use Rattle.pool_map.specs.Pool.{journal_of, map_of, HoldsMap, Steps}
 use Rattle.pool_map.specs.Steps.{Mark, step_bytes, IsWritable}
 use Rattle.pool_map.proofs.WorkLemmas.{held_on, step_moments, unmoved, mark_fits}
+use Rattle.pool_map.proofs.SoundLemmas.{step_sound}
 use Rattle.pool_map.proofs.map.PoolMap.mark.Goals as goal
 
 pub returns-then-room-lt-MARK_ROOM-clause-any_moment : goal.returns-then-room-lt-MARK_ROOM-clause-any_moment
@@ -46,3 +49,10 @@ returns-clause-any_moment g c =
     c.args.self.now.own_slot
     (step_moments m s c.mark_bytes.result body writable (mark_fits m.n (story_of m) c.args.slot c.args.down c.requires.slot) g.R.Rig.clock g.R.Rig.images (g.R.Rig.reads c.args.rig.now) c.args.self.now.journal _
     c.args.rig.now c.commit.new.rig c.commit.ensures.any_moment)
+
+pub invariant_of-self-3-clause-sound : goal.invariant_of-self-3-clause-sound
+invariant_of-self-3-clause-sound g c =
+    let story = c.args.self.now.story in
+    subst (λ (x : ℕ). IsSound story.n (record { intervals = story.intervals; marks = x }))
+    (ap (λ d. with_mark c.args.slot d story.marked.0) (sym c.down_byte-byte.ensures) ∙ sym c.with_mark-self.ensures)
+    (step_sound story.n (meant story) (Mark c.args.slot (if c.args.down then 1 else 0)) c.args.self.now.sound (mark_fits story.n (meant story) c.args.slot c.args.down c.requires.slot))
