@@ -19,7 +19,8 @@ use Rattle.ec_tool.specs.Chunks.{AreBelow, Written, after, AreChunkFiles, IsRead
 use Rattle.ec_tool.specs.Decoding.{IsAmong}
 use Rattle.ec_tool.specs.Files.{FileMap, max_file}
 use Rattle.ec_tool.specs.Laws.{ComesBack, EncodedFilesComeBack}
-use Rattle.ec_tool.specs.Runs.{DecodesFiles}
+use Rattle.ec_tool.specs.Runs.{DecodesFiles, IsFileOf}
+use Rattle.ec_tool.specs.Texts.{too_long_line}
 use Rattle.ec_tool.specs.Words.{Job}
 use Rattle.ec_tool.proofs.EncodeLemmas.{same_some}
 use Rattle.ec_tool.proofs.FileLemmas.{written, others_stay}
@@ -121,7 +122,7 @@ total k unit bytes some = length-padded k unit bytes some ∙ regroup (stripe_co
 -- ---- the file comes back
 
 -- the positions that are read are listed
-plan_listed : (code : CodeRows) (listed : List ℕ) (plan p : ℕ) → IsReadPlan code listed plan → HasPosition plan p → IsAmong listed p
+pub plan_listed : (code : CodeRows) (listed : List ℕ) (plan p : ℕ) → IsReadPlan code listed plan → HasPosition plan p → IsAmong listed p
 plan_listed code listed plan p is has = elim (cases_eq (bit_at is.given p) 1) [
   | inl here ↦ (is.is_given p).0 here
   | inr out ↦ absurd (out ((is.least (λ lies. out (lies p (subst (λ (set : ℕ). HasPosition set p) (is.itself lies) has)))).available p has))
@@ -169,17 +170,18 @@ found_back code job bytes files status line now is some_unit some_listed all fou
       let same = done.2.3.is (padded code.k job.unit bytes) (total code.k job.unit bytes some) (are_chunks_of code job bytes files done.2.0 some all found done.2.2) in
       (done.0, done.1, done.2.4 ∙ ap (λ (b : List ℕ). Some (map.insert files job.name b)) same)
 
-  too_long : max_file < length (padded code.k job.unit bytes) → (status ≡ 8) × (now ≡ Some files)
+  too_long : max_file < length (padded code.k job.unit bytes)
+      → (status ≡ 8) × ((name : List ℕ) × IsFileOf job name × (line ≡ too_long_line name)) × (now ≡ Some files)
   too_long much =
       let long = shard_len code.k job.unit (length bytes) in
       elim (cases_lt max_file long) [
         | inl lt ↦
             let file = found 0 some_listed in
             let stop = decodes.too_long_chunks 0 file.0 some_listed (λ i li. absurd (omega (arith, li))) file.1 (subst (λ (n : ℕ). max_file < n) (sym file.2.long) lt) in
-            (stop.0, stop.2)
+            (stop.0, (chunk_name job.name (get_or job.wanted 0 0), inr (0, (some_listed, refl)), stop.1), stop.2)
         | inr few ↦
             let stop = decodes.too_long long (readable few) units have (subst (λ (n : ℕ). max_file < n) (total code.k job.unit bytes some) much) in
-            (stop.0, stop.2)
+            (stop.0, (job.name, inl refl, stop.1), stop.2)
       ]
 
 pub come_back : EncodedFilesComeBack

@@ -1,18 +1,17 @@
 -- What decoding comes to, by where it stops.
-use Rattle.std.proofs.Common.{◌≡◌, ◌≢◌, ◌<◌, ◌≤◌, ◌*◌, ◌%◌, ◌^◌, ◌⊎◌, ℕ, List, [], ◌∷◌, Option, Some, None, IsSome, IsSomeAnd, Result, Ok, Err, take, get_or, length, refl, ap, sym, subst, ◌∙◌, arith, inl, inr}
+use Rattle.std.proofs.Common.{◌≡◌, ◌≢◌, ◌<◌, ◌≤◌, ◌*◌, ◌%◌, ◌⊎◌, ℕ, List, [], Option, Some, None, IsSome, IsSomeAnd, Result, Ok, Err, take, get_or, length, refl, ap, sym, subst, ◌∙◌, arith, inl, inr}
 use Rattle.std.specs.FinMap as map
-use Rattle.std.specs.List.{All}
 use Rattle.std.specs.Result.{IsErrAnd}
-use Rattle.std.proofs.lemmas.Bool.{cases_lt, cases_eq}
+use Rattle.std.proofs.lemmas.Bool.{cases_lt}
 use Rattle.std.proofs.lemmas.List.{get_or-take, length-take-le}
 use Rattle.rig_disk.specs.Faults.{Rose}
-use Rattle.ec_model.specs.Codes.{CodeRows, HasPosition, IsPositionList}
+use Rattle.ec_model.specs.Codes.{CodeRows, HasPosition}
 use Rattle.stripe_map.specs.Chunks.{chunk_of_position}
 use Rattle.stripe_map.specs.Decoding.{HasLength}
 use Rattle.ec_tool.specs.Accesses.{Told, StopsWrite, WritesOrStops}
-use Rattle.ec_tool.specs.Chunks.{AreBelow, DecideTheData, IsReadPlan, AreReadable, HaveLength, IsReadable, AreChunksOf, IsDecoded, chunk_name}
+use Rattle.ec_tool.specs.Chunks.{AreBelow, DecideTheData, IsReadPlan, AreReadable, HaveLength, IsReadable, IsDecoded, chunk_name, NeedsEach}
 use Rattle.ec_tool.specs.Decoding.{IsAmong, HaveChunks, AreFetched, Fetches, StopsReading, AreWhole, IsFileOfChunks, GivesFile}
-use Rattle.ec_tool.specs.Files.{FileMap, KeepsOthers, max_file}
+use Rattle.ec_tool.specs.Files.{FileMap, max_file}
 use Rattle.ec_tool.specs.Outcomes.{DecodePart, DecodeEnds}
 use Rattle.ec_tool.specs.Runs.{Decodes, DecodeAnswers, DecodesFiles, WhereTold}
 use Rattle.ec_tool.specs.Stops.{status_of, line_of, status_after, line_after}
@@ -278,24 +277,31 @@ decode_unjoined code job before was is chunks long set stop result below decide 
     by_stop NotDecided so = absurd so
 
 is_decoded : (code : CodeRows) (job : Job) (files : FileMap) (chunks : List (Option (List ℕ))) (long set : ℕ) (found : List ℕ) → HasFetched files job chunks long
-    → ((p : ℕ) → HasPosition set p → IsAmong job.wanted p) → IsFileOfChunks code job.unit long set chunks found → IsDecoded code job.unit files job.name set long found
-is_decoded code job files chunks long set found has listed is = record {
+    → ((p : ℕ) → HasPosition set p → IsAmong job.wanted p) → NeedsEach code set → IsFileOfChunks code job.unit long set chunks found
+    → IsDecoded code job.unit files job.name set long found
+is_decoded code job files chunks long set found has listed needs is = record {
   whole = is.whole;
   is = λ bytes lb of. is.is bytes lb of.all_bytes (λ p chunk at e.
       let place = listed p at in
       let one = has.fetched place.0 place.1.0 in
       let same = same_some one.0 chunk (sym one.3 ∙ ap (chunk_of_position chunks) place.1.1 ∙ e) in
       of.each p chunk at (ap (λ q. map.get files (chunk_name job.name q)) (sym place.1.1) ∙ one.1 ∙ ap (λ b. Some b) same));
+  all_bytes = is.all_bytes;
+  own = λ p chunk at e bytes.
+      let place = listed p at in
+      let one = has.fetched place.0 place.1.0 in
+      let same = same_some one.0 chunk (sym one.1 ∙ ap (λ q. map.get files (chunk_name job.name q)) place.1.1 ∙ e) in
+      is.own needs p chunk at (ap (chunk_of_position chunks) (sym place.1.1) ∙ one.3 ∙ ap (λ b. Some b) same) bytes;
 }
 
 pub decode_done : {T : Type 0} → (code : CodeRows) (job : Job) (before now : Option FileMap) (was is : ℕ) (chunks : List (Option (List ℕ))) (long set : ℕ) (found : List ℕ)
     (given : Result (List ℕ) Stop) (result : Result T Stop)
     → AreBelow code.n job.wanted → DecideTheData code job.wanted → WhereTold before (λ files. HasFetched files job chunks long) → IsReadPlan code job.wanted set
-    → ((p : ℕ) → HasPosition set p → IsAmong job.wanted p) → given ≡ Ok found
+    → NeedsEach code set → ((p : ℕ) → HasPosition set p → IsAmong job.wanted p) → given ≡ Ok found
     → GivesFile code job.unit job.name long set chunks given → WritesOrStops before now job.name found result
     → (status_after result ≡ 5 → Rose was is) → (status_after result ≢ 5 → is ≡ was)
     → DecodeEnds code job (status_after result) (line_after result) before now was is
-decode_done {T} code job before now was is chunks long set found given result below decide has plan listed ok gives writes failed quiet =
+decode_done {T} code job before now was is chunks long set found given result below decide has plan needs listed ok gives writes failed quiet =
     by_result result writes failed quiet
   where
     so : GivesFile code job.unit job.name long set chunks (Ok found)
@@ -307,7 +313,7 @@ decode_done {T} code job before now was is chunks long set found given result be
     told_files (Some old) None told w = absurd w
     told_files (Some old) (Some new) told w =
         all_read code job old chunks long 0 [] (Some new) told (λ never. absurd (never so.0)) (λ _ much. absurd (omega (arith, much, so.1)))
-        (λ _ _. (refl, refl, (set, found, plan, is_decoded code job old chunks long set found told listed so.2, ap (λ files. Some files) w)))
+        (λ _ _. (refl, refl, (set, found, plan, is_decoded code job old chunks long set found told listed needs so.2, ap (λ files. Some files) w)))
 
     by_stop : (s : Stop) → StopsWrite before now job.name s → (status_of s ≡ 5 → Rose was is) → DecodeEnds code job (status_of s) (line_of s) before now was is
     by_stop (Failed shown) w f = inr (inl ((_, inl w.0, refl, refl, f refl), λ old new b n. told_both before now old new _ b n w.1))

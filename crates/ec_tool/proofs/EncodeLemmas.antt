@@ -36,7 +36,7 @@ read_told before old name bytes told reads = read (subst (λ (b : Option FileMap
   read : ReadsOrStops (Some old) name (Ok bytes) → map.get old name ≡ Some bytes
   read says = says.0
 
-no_bytes : (o : Option (List ℕ)) (bytes : List ℕ) → o ≡ Some bytes → o ≡ None → ⊥
+pub no_bytes : (o : Option (List ℕ)) (bytes : List ℕ) → o ≡ Some bytes → o ≡ None → ⊥
 no_bytes o bytes some none = cc
 
 files_done : (code : CodeRows) (job : Job) (before now : Option FileMap) (bytes : List ℕ) → ReadsOrStops before job.name (Ok bytes)

@@ -1,13 +1,12 @@
 -- What is gathered of the chunks of some positions, one position after another.
-use Rattle.std.proofs.Common.{◌≡◌, ◌≢◌, ◌==◌, ◌<◌, ◌≤◌, ◌*◌, ◌/◌, ◌%◌, ◌+◌, ◌^◌, ◌⊎◌, ℕ, List, [], Bool, true, false, Option, Some, None, IsSome, Result, Ok, Err, get_or, length, slice_index, take, set as put, replicate, refl, ap, sym, subst, ◌∙◌, arith, inl, inr}
-use Rattle.std.specs.List.{All}
+use Rattle.std.proofs.Common.{◌≡◌, ◌==◌, ◌<◌, ◌≤◌, ◌*◌, ◌/◌, ◌%◌, ◌+◌, ℕ, List, [], Bool, true, false, Option, Some, None, IsSome, Result, Ok, Err, get_or, length, take, set as put, replicate, refl, ap, sym, subst, ◌∙◌, arith, inl, inr}
 use Rattle.std.proofs.lemmas.Bool.{cases_eq, cases_lt}
 use Rattle.std.proofs.lemmas.Bool.Decides.{nat_tests}
 use Rattle.std.proofs.lemmas.List.{get_or-set_same, get_or-set_other, get_or-replicate, get_or_past, get_or-take, length-replicate, length-set, length-take-le, take_all}
 use Rattle.std.proofs.lemmas.List.Elements.{All-get_or}
 use Rattle.std.proofs.lemmas.Nat.{div-add-mod'}
-use Rattle.ec_model.specs.Codes.{CodeRows, IsCode, HasPosition, IsPositionList}
-use Rattle.stripe_map.specs.Assembling.{MakeData, AddsPosition, IsMade}
+use Rattle.ec_model.specs.Codes.{CodeRows, IsCode, HasPosition}
+use Rattle.stripe_map.specs.Assembling.{MakeData, IsMade}
 use Rattle.stripe_map.specs.Chunks.{chunk_of_position, KeepsOthers}
 use Rattle.stripe_map.specs.Decoding.{HasLength, AllHaveLength, bytes_of}
 use Rattle.stripe_map.proofs.AssemblyLemmas.{zeros_are_made, made_of_one_more, made_is_object}
@@ -21,6 +20,7 @@ use Rattle.ec_tool.specs.declared.stop.Stop.{Stop}
 use Rattle.ec_tool.specs.declared.stop.Stop.TheVariants.{Usage, Profile, Missing, Failed, NotDecided, Lengths, TooLong, NoMemory}
 use Rattle.ec_tool.specs.declared.gathering.Gathered.{Gathered}
 use Rattle.ec_tool.proofs.FetchLemmas.{have_one_more, fetched_one_more, nothing_had, nothing_fetched}
+use Rattle.ec_tool.proofs.OwnChunkLemmas.{made_bytes, made_has_chunks}
 
 -- the bytes of whole units in each of k chunks
 pub bytes_of_units : (k unit long : ℕ) → long % unit ≡ 0 → long / unit * k * unit ≡ long * k
@@ -197,11 +197,14 @@ bytes_there : (chunk : Option (List ℕ)) → IsSome chunk → chunk ≡ Some (b
 bytes_there (Some bytes) is = refl
 bytes_there None is = absurd cc
 
+units_of : (unit long : ℕ) → long % unit ≡ 0 → long / unit * unit ≡ long
+units_of unit long whole = omega (arith, div-add-mod' long unit, whole)
+
 -- what all listed positions' chunks make
 pub sums_gathered : (code : CodeRows) (unit set : ℕ) (rows : List (List ℕ)) (files : Option FileMap) (name listed : List ℕ) (count : ℕ) (gathered : Gathered) → IsCode code → 1 ≤ unit
-    → MakeData code set rows → ((p : ℕ) → HasPosition set p → IsAmong listed p) → 1 ≤ length listed → count ≡ length listed
+    → MakeData code set rows → ((p : ℕ) → HasPosition set p → IsAmong listed p) → ((p : ℕ) → HasPosition set p → p < code.n) → 1 ≤ length listed → count ≡ length listed
     → SumsUp code.k unit code.n rows files name listed count gathered → IsGathered code unit set files name listed gathered
-sums_gathered code unit set rows files name listed count gathered is some makes among many all sums = record {
+sums_gathered code unit set rows files name listed count gathered is some makes among inside many all sums = record {
   chunks = sums.chunks;
   fetched = subst (λ (l : List ℕ). Fetches files name l sums.chunks) whole_list sums.fetched;
   there = subst (λ (l : List ℕ). HaveChunks l sums.chunks) whole_list sums.there;
@@ -215,6 +218,9 @@ sums_gathered code unit set rows files name listed count gathered is some makes 
         is = λ bytes lb bounded each. made_is_object code unit set (gathered.long / unit) rows sums.chunks gathered.whole.items bytes is some makes made (lb ∙ sym bytes_all) bounded
             (λ q _ has. each q (bytes_of (chunk_of_position sums.chunks q)) has
             (bytes_there (chunk_of_position sums.chunks q) ((sums.there q).1 (subst (λ (l : List ℕ). IsAmong l q) (sym whole_list) (among q has)))));
+        all_bytes = made_bytes code.k unit code.n rows sums.chunks (gathered.long / unit) gathered.whole.items some made;
+        own = λ needs p chunk has there bytes. made_has_chunks code unit set (gathered.long / unit) rows sums.chunks gathered.whole.items is some makes made needs p chunk (inside p has) has there
+            (subst (λ (o : Option (List ℕ)). HasLength o gathered.long) there ((sums.sum (omega arith)).alike.0 alike p) ∙ sym (units_of unit gathered.long fits.0)) bytes;
       };
 } where
   whole_list : take count listed ≡ listed

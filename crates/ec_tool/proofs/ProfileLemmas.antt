@@ -1,5 +1,5 @@
 -- What a command comes to where its profile can't be opened.
-use Rattle.std.proofs.Common.{◌≡◌, ◌⊎◌, ℕ, List, Result, Ok, Err, IfErr, refl, sym, subst, inl, inr}
+use Rattle.std.proofs.Common.{◌≡◌, ℕ, List, Result, Ok, Err, IfErr, refl, sym, subst, inl, inr}
 use Rattle.std.specs.Result.{IsErrAnd}
 use Rattle.ec_model.specs.Codes.{CodeRows}
 use Rattle.ec_code.specs.declared.fault.ProfileFault.{ProfileFault}

@@ -18,7 +18,7 @@ not_numbers shown texts i d within none numbers are =
     none (get_or numbers i 0) (are.small i 0 there, sym (get_or-map shown texts i d [] within) ∙ ap (λ l. get_or l i []) are.spelled ∙ get_or-map decimal numbers i 0 [] there)
 
 -- numbers that are printed alike are the same
-same_numbers : (xs ys : List ℕ) → All (λ n. n < 2 ^ 64) xs → All (λ n. n < 2 ^ 64) ys → map decimal xs ≡ map decimal ys → xs ≡ ys
+pub same_numbers : (xs ys : List ℕ) → All (λ n. n < 2 ^ 64) xs → All (λ n. n < 2 ^ 64) ys → map decimal xs ≡ map decimal ys → xs ≡ ys
 same_numbers [] [] small below same = refl
 same_numbers [] (y ∷ ys) small below same = absurd (omega (arith, ap length same))
 same_numbers (x ∷ xs) [] small below same = absurd (omega (arith, ap length same))

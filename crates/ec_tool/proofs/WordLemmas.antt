@@ -26,7 +26,7 @@ parameters_are_told false words told = (
 )
 
 -- command lines that are alike begin alike
-first_word : (words : Words) (x y : List ℕ) (more others : List (List ℕ)) → texts_of words ≡ x ∷ more → texts_of words ≡ y ∷ others → x ≡ y
+pub first_word : (words : Words) (x y : List ℕ) (more others : List (List ℕ)) → texts_of words ≡ x ∷ more → texts_of words ≡ y ∷ others → x ≡ y
 first_word words x y more others one other = let e : x ∷ more ≡ y ∷ others = sym one ∙ other in cc
 
 -- of the words after `encode` only those after it need be looked at

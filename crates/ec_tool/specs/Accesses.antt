@@ -3,7 +3,7 @@ use Rattle.std.specs.Prelude.{◌≡◌, ◌<◌, ◌≤◌, ⊤, ℕ, List, len
 use Rattle.std.specs.FinMap as map
 use Rattle.ec_tool.specs.Files.{FileMap, KeepsOthers, max_file}
 use Rattle.ec_tool.specs.declared.stop.Stop.{Stop}
-use Rattle.ec_tool.specs.declared.stop.Stop.TheVariants.{Usage, Profile, Missing, Failed, NotDecided, Lengths, TooLong, NoMemory}
+use Rattle.ec_tool.specs.declared.stop.Stop.TheVariants.{Missing, Failed, TooLong, NoMemory}
 
 -- what an answer says of a file, which may be there, and of its name
 abbrev pub SaysOf : Option (List ℕ) → List ℕ → Result (List ℕ) Stop → Type 0

@@ -1,9 +1,9 @@
 -- Files of chunks. Source: this project, after ceph-erasure-code-tool: the chunks of position P of file NAME are in NAME.P.
-use Rattle.std.specs.Prelude.{◌≡◌, ◌↔◌, ◌<◌, ◌≤◌, ◌^◌, ◌*◌, ◌%◌, ◌⊎◌, ℕ, List, [], ◌∷◌, ◌++◌, length, slice_index, Option, Some, None, ⊤}
+use Rattle.std.specs.Prelude.{◌≡◌, ◌≢◌, ◌↔◌, ◌<◌, ◌≤◌, ◌^◌, ◌*◌, ℕ, List, [], ◌∷◌, ◌++◌, length, slice_index, Some, ⊤}
 use Rattle.std.specs.List.{All}
 use Rattle.std.specs.Fmt.{decimal}
 use Rattle.std.specs.FinMap as map
-use Rattle.ec_model.specs.Codes.{CodeRows, HasPosition, IsPositionList}
+use Rattle.ec_model.specs.Codes.{CodeRows, IsColumn, HasPosition, IsPositionList, chunk_of}
 use Rattle.read_plan.specs.Plans.{LiesIn, IsLeastPlan}
 use Rattle.stripe_map.specs.Decoding.{DecidesData}
 use Rattle.stripe_map.specs.DecodingLaws.{IsDataMask}
@@ -41,6 +41,16 @@ AreChunkFiles code unit name bytes _ _ = ⊥
 abbrev pub DecideTheData : CodeRows → List ℕ → Type 0
 DecideTheData code positions = (set : ℕ) → IsSetOf positions set → DecidesData code set
 
+-- the other positions of a set decide one of them: any two columns whose chunks agree on all the others agree there
+pub record DecideByOthers (code : CodeRows) (set p : ℕ) : Type 0 where
+  pub agree : (one other : List ℕ) → IsColumn code.k one → IsColumn code.k other
+      → ((q : ℕ) → q < code.n → q ≢ p → HasPosition set q → chunk_of code one q ≡ chunk_of code other q)
+      → chunk_of code one p ≡ chunk_of code other p
+
+-- a set has no position to spare: the others don't decide it
+abbrev pub NeedsEach : CodeRows → ℕ → Type 0
+NeedsEach code set = (p : ℕ) → HasPosition set p → DecideByOthers code set p → ⊥
+
 -- the set that is read of the listed positions: the data positions where they are listed, else the least set that decides them
 pub record IsReadPlan (code : CodeRows) (listed : List ℕ) (plan : ℕ) : Type 0 where
   pub given : ℕ
@@ -69,7 +79,10 @@ pub record AreChunksOf (code : CodeRows) (unit : ℕ) (files : FileMap) (name : 
   pub each : (p : ℕ) (chunks : List ℕ) → HasPosition set p → map.get files (chunk_name name p) ≡ Some chunks → IsPositionList code unit bytes p chunks
 
 -- a file was decoded from the chunks of a set of positions, each of this length: it has the bytes of all the stripes, those of
--- the object that the chunks are of
+-- the object that the chunks are of. The chunks that hold bytes are its own, so there is such an object
 pub record IsDecoded (code : CodeRows) (unit : ℕ) (files : FileMap) (name : List ℕ) (set long : ℕ) (found : List ℕ) : Type 0 where
   pub whole : length found ≡ code.k * long
   pub is : (bytes : List ℕ) → length bytes ≡ code.k * long → AreChunksOf code unit files name set bytes → found ≡ bytes
+  pub all_bytes : All (λ b. b < 2 ^ 8) found
+  pub own : (p : ℕ) (chunks : List ℕ) → HasPosition set p → map.get files (chunk_name name p) ≡ Some chunks → All (λ b. b < 2 ^ 8) chunks
+      → IsPositionList code unit found p chunks

@@ -5,10 +5,10 @@ use Rattle.std.specs.FinMap as map
 use Rattle.ec_model.specs.Codes.{CodeRows, HasPosition, IsPositionList}
 use Rattle.stripe_map.specs.Chunks.{chunk_of_position}
 use Rattle.stripe_map.specs.Decoding.{AllHaveLength}
-use Rattle.ec_tool.specs.Chunks.{chunk_name, AreReadable}
+use Rattle.ec_tool.specs.Chunks.{chunk_name, AreReadable, NeedsEach}
 use Rattle.ec_tool.specs.Files.{FileMap, max_file}
 use Rattle.ec_tool.specs.declared.stop.Stop.{Stop}
-use Rattle.ec_tool.specs.declared.stop.Stop.TheVariants.{Usage, Profile, Missing, Failed, NotDecided, Lengths, TooLong, NoMemory}
+use Rattle.ec_tool.specs.declared.stop.Stop.TheVariants.{Missing, Failed, Lengths, TooLong, NoMemory}
 
 -- a position is one of these
 abbrev pub IsAmong : List ℕ → ℕ → Type 0
@@ -51,12 +51,16 @@ StopsReading files name positions stop = (i : ℕ) × (i < length positions) × 
 abbrev pub AreWhole : ℕ → ℕ → List (Option (List ℕ)) → Type 0
 AreWhole unit long chunks = (long % unit ≡ 0) × AllHaveLength chunks long
 
--- a file was put together from the chunks of a set of positions: where they are those of an object, it is the object
+-- a file was put together from the chunks of a set of positions: where they are those of an object, it is the object; and those
+-- of a set with no position to spare are its own
 pub record IsFileOfChunks (code : CodeRows) (unit long set : ℕ) (chunks : List (Option (List ℕ))) (found : List ℕ) : Type 0 where
   pub whole : length found ≡ code.k * long
   pub is : (bytes : List ℕ) → length bytes ≡ code.k * long → All (λ b. b < 2 ^ 8) bytes
       → ((p : ℕ) (chunk : List ℕ) → HasPosition set p → chunk_of_position chunks p ≡ Some chunk → IsPositionList code unit bytes p chunk)
       → found ≡ bytes
+  pub all_bytes : All (λ b. b < 2 ^ 8) found
+  pub own : NeedsEach code set → (p : ℕ) (chunk : List ℕ) → HasPosition set p → chunk_of_position chunks p ≡ Some chunk → All (λ b. b < 2 ^ 8) chunk
+      → IsPositionList code unit found p chunk
 
 -- a file of this name was to be put together
 abbrev pub GivesFile : CodeRows → ℕ → List ℕ → ℕ → ℕ → List (Option (List ℕ)) → Result (List ℕ) Stop → Type 0

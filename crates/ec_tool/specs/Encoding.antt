@@ -6,7 +6,7 @@ use Rattle.ec_tool.specs.Accesses.{Told}
 use Rattle.ec_tool.specs.Chunks.{chunk_name, Written, after, AreChunkFiles}
 use Rattle.ec_tool.specs.Files.{FileMap, KeepsOthers}
 use Rattle.ec_tool.specs.declared.stop.Stop.{Stop}
-use Rattle.ec_tool.specs.declared.stop.Stop.TheVariants.{Usage, Profile, Missing, Failed, NotDecided, Lengths, TooLong, NoMemory}
+use Rattle.ec_tool.specs.declared.stop.Stop.TheVariants.{Failed, NoMemory}
 
 -- the chunks of a position were written
 abbrev pub HasChunk : CodeRows → ℕ → List ℕ → List ℕ → ℕ → FileMap → FileMap → Type 0

@@ -1,5 +1,5 @@
 -- What the chunks of the listed positions make, gathered as they are read. Source: this project.
-use Rattle.std.specs.Prelude.{◌≡◌, ◌↔◌, ◌⊎◌, ◌<◌, ◌≤◌, ◌*◌, ◌/◌, ◌%◌, ⊤, ℕ, List, length, replicate, slice_index, Option, Some, None, Bool, true, false, Result, Ok, Err, string_bytes}
+use Rattle.std.specs.Prelude.{◌≡◌, ◌↔◌, ◌<◌, ◌≤◌, ◌*◌, ◌/◌, ◌%◌, ⊤, ℕ, List, length, replicate, slice_index, Option, Some, None, Bool, true, false, Result, Ok, Err, string_bytes}
 use Rattle.ec_model.specs.Codes.{CodeRows}
 use Rattle.stripe_map.specs.Assembling.{AddsPosition, IsMade}
 use Rattle.stripe_map.specs.Chunks.{chunk_of_position, KeepsOthers}
@@ -8,7 +8,7 @@ use Rattle.ec_tool.specs.Decoding.{HaveChunks, Fetches, IsFileOfChunks}
 use Rattle.ec_tool.specs.Files.{FileMap, max_file}
 use Rattle.ec_tool.specs.declared.gathering.Gathered.{Gathered}
 use Rattle.ec_tool.specs.declared.stop.Stop.{Stop}
-use Rattle.ec_tool.specs.declared.stop.Stop.TheVariants.{Usage, Profile, Missing, Failed, NotDecided, Lengths, TooLong, NoMemory}
+use Rattle.ec_tool.specs.declared.stop.Stop.TheVariants.{Lengths, TooLong, NoMemory}
 
 -- chunks of this length are whole units, and make no file that is too long
 abbrev pub Fits : ℕ → ℕ → ℕ → Type 0

@@ -11,6 +11,7 @@ pub mod MemFiles
 pub mod Outcomes
 pub mod Requests
 pub mod Runs
+pub mod Sameness
 pub mod Stops
 pub mod Texts
 pub mod Wanted

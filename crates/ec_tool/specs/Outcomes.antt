@@ -1,7 +1,7 @@
 -- What the commands come to: a status, a line, and the files. Source: this project.
 -- `before` and `now` are the files, where they are told; `was` and `is` are the counts of their faults.
-use Rattle.std.specs.Prelude.{◌≡◌, ◌⊎◌, ⊤, ℕ, List, [], Option, Some, Result, Ok, Err}
-use Rattle.ec_model.specs.Codes.{CodeRows}
+use Rattle.std.specs.Prelude.{◌≡◌, ◌⊎◌, ℕ, List, [], Option, Some}
+use Rattle.ec_model.specs.Codes.{CodeRows, IsCode}
 use Rattle.ec_code.specs.declared.profile.Profile.{Profile}
 use Rattle.ec_code.specs.declared.fault.ProfileFault.{ProfileFault}
 use Rattle.ec_code.specs.Refusals.{IsCodeOf}
@@ -55,4 +55,4 @@ abbrev pub Codes : (CodeRows → Job → ℕ → List ℕ → Option FileMap →
 Codes Ends job status line before now was is =
     (RunsOut status line × (now ≡ before) × (is ≡ was))
     ⊎ ((f : ProfileFault) × IsRefusedJob job f × (status ≡ 3) × (line ≡ fault_line f) × (now ≡ before) × (is ≡ was))
-    ⊎ ((p : Profile) × (code : CodeRows) × GivesJob job p × IsCodeOf p code × Ends code job status line before now was is)
+    ⊎ ((p : Profile) × (code : CodeRows) × GivesJob job p × IsCodeOf p code × IsCode code × Ends code job status line before now was is)

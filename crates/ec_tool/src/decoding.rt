@@ -42,6 +42,7 @@ pub fn decode_file<F: Files>(
     requires distinct { AreDistinct job.now.wanted.items }
     ensures value { DecodeEnds (meaning code.now) (job_of job.now) (status_after result) (line_after result)
         (F.files files.old) (F.files files.new) (F.faults files.old) (F.faults files.new) }
+    ensures is_code { IsCode (meaning code.now) }
     ensures failed { status_after result ≡ 5 → Rose (F.faults files.old) (F.faults files.new) }
 {
     let shape = code.shape();

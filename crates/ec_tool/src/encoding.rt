@@ -1,6 +1,7 @@
 //! The command `encode`: the chunks of a file, each position's in a file of its own.
 ghost use Rattle.std.specs.Prelude.{◌≡◌, ◌≢◌, ◌≤◌, ◌<◌, length};
 ghost use Rattle.ec_code.specs.Bounds.{IsUnit};
+ghost use Rattle.ec_model.specs.Codes.{IsCode};
 ghost use Rattle.rig_disk.specs.Faults.{Rose};
 ghost use Rattle.ec_tool.specs.Chunks.{AreBelow};
 ghost use Rattle.ec_tool.specs.Encoding.{WritesOne, WritesChunks};
@@ -31,6 +32,7 @@ pub fn encode_file<F: Files>(
     requires { IsUnit job.now.unit }
     ensures value { EncodeEnds (meaning code.now) (job_of job.now) (status_after result) (line_after result)
         (F.files files.old) (F.files files.new) (F.faults files.old) (F.faults files.new) }
+    ensures is_code { IsCode (meaning code.now) }
     ensures failed { status_after result ≡ 5 → Rose (F.faults files.old) (F.faults files.new) }
 {
     let shape = code.shape();

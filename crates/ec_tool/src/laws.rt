@@ -1,5 +1,10 @@
 //! Laws about files, for every caller: functions that do nothing and whose contract is the law.
-ghost use Rattle.ec_tool.specs.Laws.{AnswersAreExact, WrittenFilesAreFound, EncodedFilesComeBack};
+ghost use Rattle.std.specs.Prelude.{◌≡◌, ◌<◌, ℕ, length, slice_index_or};
+ghost use Rattle.ec_tool.specs.Laws.{AnswersAreExact, WrittenFilesAreFound, EncodedFilesComeBack, EncodedRunsComeBack, WordsAskForOneThing, ProfilesAreOne, CodesAreOne, EncodedFilesAreOne, DecodedFilesAreOne, OutcomesAreOne};
+
+use ec_code::Code;
+use lrc_layers::layers_have_one_code;
+use read_plan::least_plan_is_one;
 
 /// An answer that is neither `Failed` nor `NoMemory` comes exactly where the file is as the answer says.
 pub fn answers_are_exact()
@@ -15,3 +20,47 @@ pub fn written_files_are_found()
 pub fn encoded_files_come_back()
     ensures { EncodedFilesComeBack }
 {}
+
+/// A run of `decode` over the files that a run of `encode` left gives the file back, by boxes of these names.
+pub fn encoded_runs_come_back(codes: &[Box<dyn Code>])
+    ensures { EncodedRunsComeBack (λ name. (i : ℕ) × (i < length codes.now) × ((d : _) → plugin_name (slice_index_or codes.now i d) ≡ name)) }
+{
+    layers_have_one_code()
+}
+
+/// The same words ask for one thing: two requests that they ask for are of one kind, with the same texts and numbers.
+pub fn words_ask_for_one_thing()
+    ensures { WordsAskForOneThing }
+{}
+
+/// A text is refused by one fault, or gives one profile.
+pub fn profiles_are_one()
+    ensures { ProfilesAreOne }
+{}
+
+/// An accepted profile has one code.
+pub fn codes_are_one()
+    ensures { CodesAreOne }
+{
+    layers_have_one_code()
+}
+
+/// What `encode` comes to over told files is one thing.
+pub fn encoded_files_are_one()
+    ensures { EncodedFilesAreOne }
+{}
+
+/// What `decode` comes to over told files is one thing.
+pub fn decoded_files_are_one()
+    ensures { DecodedFilesAreOne }
+{
+    least_plan_is_one()
+}
+
+/// Two runs of the same words, by boxes of these names and over the same told files, end alike, but for failures and want of memory.
+pub fn outcomes_are_one(codes: &[Box<dyn Code>])
+    ensures { OutcomesAreOne (λ name. (i : ℕ) × (i < length codes.now) × ((d : _) → plugin_name (slice_index_or codes.now i d) ≡ name)) }
+{
+    layers_have_one_code();
+    least_plan_is_one()
+}

@@ -36,7 +36,11 @@ mod words;
 pub use edge::DiskFiles;
 pub use fault::FileFault;
 pub use files::Files;
-pub use laws::{answers_are_exact, encoded_files_come_back, written_files_are_found};
+pub use laws::{
+    answers_are_exact, codes_are_one, decoded_files_are_one, encoded_files_are_one,
+    encoded_files_come_back, encoded_runs_come_back, outcomes_are_one, profiles_are_one,
+    words_ask_for_one_thing, written_files_are_found,
+};
 pub use limits::MAX_FILE;
 pub use mem_files::MemFiles;
 pub use program::{ToolStatus, tool};

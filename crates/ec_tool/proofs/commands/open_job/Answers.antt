@@ -1,4 +1,4 @@
-use Rattle.std.proofs.Common.{List, ℕ, Err, ap, subst, ◌∙◌}
+use Rattle.std.proofs.Common.{List, ℕ, Err, ap, subst}
 use Rattle.plugin_reg.specs.Opening.{IsRefused}
 use Rattle.ec_tool.specs.Requests.{job_of}
 use Rattle.ec_tool.proofs.ProfileLemmas.{job_stops}

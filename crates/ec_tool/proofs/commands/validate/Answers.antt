@@ -1,4 +1,4 @@
-use Rattle.std.proofs.Common.{List, ℕ, Err, ap, subst, ◌∙◌}
+use Rattle.std.proofs.Common.{List, ℕ, Err, ap, subst}
 use Rattle.plugin_reg.specs.Opening.{IsRefused}
 use Rattle.ec_tool.proofs.ProfileLemmas.{shows_none}
 use Rattle.ec_tool.proofs.commands.validate.Goals as goal

@@ -1,4 +1,4 @@
-use Rattle.std.proofs.Common.{rules, ◌≡◌, ◌≢◌, ◌≤◌, Option, List, ℕ, Some, Ok, Err, Result, length, slice_index, ap, sym, subst, ◌∙◌, arith, refl}
+use Rattle.std.proofs.Common.{◌≤◌, Option, List, ℕ, Ok, Err, length, sym, subst, ◌∙◌, arith, refl}
 use Rattle.rig_disk.specs.Faults.{Rose}
 use Rattle.ec_model.specs.Codes.{HasPosition}
 use Rattle.ec_tool.specs.Accesses.{WritesOrStops}
@@ -8,11 +8,10 @@ use Rattle.ec_tool.specs.Files.{FileMap}
 use Rattle.ec_tool.specs.Gathering.{IsGathered, GivesGathered}
 use Rattle.ec_tool.specs.Outcomes.{DecodeEnds}
 use Rattle.ec_tool.specs.Requests.{job_of}
-use Rattle.ec_tool.specs.Stops.{status_of, line_of, status_after}
-use Rattle.ec_tool.specs.declared.stop.Stop.{Stop}
+use Rattle.ec_tool.specs.Stops.{status_of, line_of}
 use Rattle.ec_tool.proofs.DecodeLemmas.{decode_undecided, decode_unread, decode_unjoined, decode_done, has_first, by_reason}
 use Rattle.ec_tool.proofs.GatherLemmas.{gathered_gives}
-use Rattle.ec_tool.proofs.PlanLemmas.{part_decides}
+use Rattle.ec_tool.proofs.PlanLemmas.{part_decides, read_needs}
 use Rattle.ec_tool.proofs.decoding.decode_listed.Goals as goal
 
 pub returns-in_default-clause-value : goal.returns-in_default-clause-value
@@ -91,5 +90,6 @@ returns-clause-value g c =
     let writes1 = subst (λ (n : List ℕ). WritesOrStops (g.F.Files.files c.gather.new.files) now n c.as_slice.result.now c.write.result) c.in_ok-name.ensures.ok c.write.ensures.value in
     let writes2 = subst (λ (b : List ℕ). WritesOrStops (g.F.Files.files c.gather.new.files) now job.name b c.write.result) c.as_slice.ensures writes1 in
     let writes = subst (λ (b : Option FileMap). WritesOrStops b now job.name found c.write.result) c.in_ok-gathered.ensures.kept writes2 in
-    decode_done code job before now was (g.F.Files.faults c.write.new.files) is.chunks gathered.long c.in-Some.plan.0 found (Ok found) c.write.result below decide has plan listed refl gives writes
+    decode_done code job before now was (g.F.Files.faults c.write.new.files) is.chunks gathered.long c.in-Some.plan.0 found (Ok found) c.write.result below decide has plan
+    (read_needs code job.wanted c.in-Some.plan.0 c.in-Some.ensures.is_code below plan) listed refl gives writes
     (λ e. subst (λ (w : ℕ). Rose w (g.F.Files.faults c.write.new.files)) quiet (c.write.ensures.failed e)) (λ ne. c.write.ensures.quiet ne ∙ quiet)

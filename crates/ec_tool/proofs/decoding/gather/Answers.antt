@@ -1,12 +1,11 @@
-use Rattle.std.proofs.Common.{rules, refl, get_or, subst, sym, ◌∙◌, ◌==◌, ◌≤◌, Ok, Err, Option, List, ℕ, arith, length}
+use Rattle.std.proofs.Common.{refl, get_or, subst, ◌∙◌, ◌==◌, ◌<◌, Ok, Err, Option, List, ℕ, arith}
 use Rattle.ec_tool.specs.Accesses.{ReadsOrStops}
 use Rattle.ec_tool.specs.Chunks.{chunk_name}
-use Rattle.ec_tool.specs.Decoding.{StopsReading}
 use Rattle.ec_tool.specs.Files.{FileMap}
 use Rattle.ec_tool.specs.Gathering.{Takes}
 use Rattle.ec_tool.specs.declared.stop.Stop.TheVariants.{NoMemory}
 use Rattle.ec_tool.proofs.FetchLemmas.{stopped_reading, stopped_by, out_of_memory}
-use Rattle.ec_tool.proofs.GatherLemmas.{sums_start, sums_whole, sums_more, sums_gathered}
+use Rattle.ec_tool.proofs.GatherLemmas.{sums_start, sums_more, sums_gathered}
 use Rattle.ec_tool.proofs.decoding.gather.Goals as goal
 
 pub loop-i-init : goal.loop-i-init
@@ -47,4 +46,5 @@ pub returns-clause-value : goal.returns-clause-value
 returns-clause-value g c =
     let code = (goal.Code-dyn g c.args.code.now).meaning c.args.code.now.1 in
     sums_gathered code c.args.g.unit c.args.set.0 c.data_rows-rows.result (g.F.Files.files c.args.files.now) c.args.name.now c.args.listed.now c.loop-i.i c.loop-i.gathered
-    c.requires.is_code c.args.g.some_bytes c.data_rows-rows.ensures c.requires.among c.requires.some (omega (arith, c.loop-i-test.false, c.loop-i.auto.i-end)) c.loop-i.invariant.0
+    c.requires.is_code c.args.g.some_bytes c.data_rows-rows.ensures c.requires.among
+    (λ p has. let at = c.requires.among p has in subst (λ (q : ℕ). q < code.n) at.1.1 (c.requires.below at.0 0 at.1.0)) c.requires.some (omega (arith, c.loop-i-test.false, c.loop-i.auto.i-end)) c.loop-i.invariant.0

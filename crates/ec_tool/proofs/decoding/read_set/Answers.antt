@@ -1,4 +1,3 @@
-use Rattle.std.proofs.Common.{arith}
 use Rattle.ec_tool.proofs.PlanLemmas.{all_below_16, listed_below, data_below, plan_if, decides_if, listed_if, decided}
 use Rattle.ec_tool.proofs.decoding.read_set.Goals as goal
 

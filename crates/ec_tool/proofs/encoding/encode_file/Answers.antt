@@ -1,11 +1,10 @@
-use Rattle.std.proofs.Common.{◌≡◌, ◌≢◌, Option, List, ℕ, Ok, ap, sym, subst, ◌∙◌, arith}
+use Rattle.std.proofs.Common.{Option, List, ℕ, Ok, subst, ◌∙◌, arith}
 use Rattle.rig_disk.specs.Faults.{Rose}
 use Rattle.ec_tool.specs.Accesses.{ReadsOrStops}
 use Rattle.ec_tool.specs.Chunks.{AreBelow}
 use Rattle.ec_tool.specs.Encoding.{WritesChunks}
 use Rattle.ec_tool.specs.Files.{FileMap}
 use Rattle.ec_tool.specs.Requests.{job_of}
-use Rattle.ec_tool.specs.Stops.{status_after}
 use Rattle.ec_tool.proofs.EncodeLemmas.{encode_done}
 use Rattle.ec_tool.proofs.encoding.encode_file.Goals as goal
 

@@ -1,4 +1,4 @@
-use Rattle.std.proofs.Common.{ℕ, List, [], ◌∷◌, ◌++◌, codes, ap, sym, ◌∙◌, append_assoc, append-nil}
+use Rattle.std.proofs.Common.{◌++◌, codes, ap, sym, ◌∙◌, append_assoc, append-nil}
 use Rattle.ec_tool.specs.Runs.{parameter_line}
 use Rattle.ec_tool.proofs.parameters.push_all.Goals as goal
 

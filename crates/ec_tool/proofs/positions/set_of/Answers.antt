@@ -1,7 +1,7 @@
-use Rattle.std.proofs.Common.{◌≡◌, ◌<◌, take, length, ap, sym, ◌∙◌, subst, refl, arith}
+use Rattle.std.proofs.Common.{◌≡◌, ◌<◌, take, length, ap, ◌∙◌, subst, refl, arith}
 use Rattle.std.proofs.Math.Seq.{take-length}
 use Rattle.ec_tool.specs.Chunks.{IsSetOf}
-use Rattle.ec_tool.proofs.PositionLemmas.{no_position, one_position_more}
+use Rattle.ec_tool.proofs.PositionLemmas.{one_position_more}
 use Rattle.ec_tool.proofs.positions.set_of.Goals as goal
 
 pub loop-p-preserved : goal.loop-p-preserved
