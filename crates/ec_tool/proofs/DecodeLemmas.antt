@@ -6,12 +6,14 @@ use Rattle.std.proofs.lemmas.Bool.{cases_lt}
 use Rattle.std.proofs.lemmas.List.{get_or-take, length-take-le}
 use Rattle.rig_disk.specs.Faults.{Rose}
 use Rattle.ec_model.specs.Codes.{CodeRows, HasPosition}
+use Rattle.stripe_map.specs.Assembling.{IsMade}
 use Rattle.stripe_map.specs.Chunks.{chunk_of_position}
 use Rattle.stripe_map.specs.Decoding.{HasLength}
-use Rattle.ec_tool.specs.Accesses.{Told, StopsWrite, WritesOrStops}
+use Rattle.ec_tool.specs.Accesses.{Told, HasFile}
 use Rattle.ec_tool.specs.Chunks.{AreBelow, DecideTheData, IsReadPlan, AreReadable, HaveLength, IsReadable, IsDecoded, chunk_name, NeedsEach}
 use Rattle.ec_tool.specs.Decoding.{IsAmong, HaveChunks, AreFetched, Fetches, StopsReading, AreWhole, IsFileOfChunks, GivesFile}
 use Rattle.ec_tool.specs.Files.{FileMap, max_file}
+use Rattle.ec_tool.specs.Joining.{WritesMadeOrStops}
 use Rattle.ec_tool.specs.Outcomes.{DecodePart, DecodeEnds}
 use Rattle.ec_tool.specs.Runs.{Decodes, DecodeAnswers, DecodesFiles, WhereTold}
 use Rattle.ec_tool.specs.Stops.{status_of, line_of, status_after, line_after}
@@ -294,41 +296,42 @@ is_decoded code job files chunks long set found has listed needs is = record {
       is.own needs p chunk at (ap (chunk_of_position chunks) (sym place.1.1) ∙ one.3 ∙ ap (λ b. Some b) same) bytes;
 }
 
-pub decode_done : {T : Type 0} → (code : CodeRows) (job : Job) (before now : Option FileMap) (was is : ℕ) (chunks : List (Option (List ℕ))) (long set : ℕ) (found : List ℕ)
-    (given : Result (List ℕ) Stop) (result : Result T Stop)
+pub decode_done : (code : CodeRows) (job : Job) (before now : Option FileMap) (was is : ℕ) (chunks : List (Option (List ℕ))) (long set : ℕ) (found : List ℕ)
     → AreBelow code.n job.wanted → DecideTheData code job.wanted → WhereTold before (λ files. HasFetched files job chunks long) → IsReadPlan code job.wanted set
-    → NeedsEach code set → ((p : ℕ) → HasPosition set p → IsAmong job.wanted p) → given ≡ Ok found
-    → GivesFile code job.unit job.name long set chunks given → WritesOrStops before now job.name found result
-    → (status_after result ≡ 5 → Rose was is) → (status_after result ≢ 5 → is ≡ was)
-    → DecodeEnds code job (status_after result) (line_after result) before now was is
-decode_done {T} code job before now was is chunks long set found given result below decide has plan needs listed ok gives writes failed quiet =
-    by_result result writes failed quiet
+    → NeedsEach code set → ((p : ℕ) → HasPosition set p → IsAmong job.wanted p) → GivesFile code job.unit job.name long set chunks (Ok found)
+    → Told before now (HasFile job.name found) → is ≡ was → DecodeEnds code job 0 [] before now was is
+decode_done code job before now was is chunks long set found below decide has plan needs listed gives writes quiet =
+    inl (by_files code job before now 0 [] below decide (λ e. omega arith) (λ e. omega arith) (inl (refl, refl)) (told_files before now has writes), quiet)
   where
-    so : GivesFile code job.unit job.name long set chunks (Ok found)
-    so = subst (λ (r : Result (List ℕ) Stop). GivesFile code job.unit job.name long set chunks r) ok gives
-
-    told_files : (b n : Option FileMap) → WhereTold b (λ files. HasFetched files job chunks long) → Told b n (λ old new. new ≡ map.insert old job.name found)
+    told_files : (b n : Option FileMap) → WhereTold b (λ files. HasFetched files job chunks long) → Told b n (HasFile job.name found)
         → WhereTold b (DecodesFiles code job 0 [] n)
     told_files None n told w = tt
     told_files (Some old) None told w = absurd w
     told_files (Some old) (Some new) told w =
-        all_read code job old chunks long 0 [] (Some new) told (λ never. absurd (never so.0)) (λ _ much. absurd (omega (arith, much, so.1)))
-        (λ _ _. (refl, refl, (set, found, plan, is_decoded code job old chunks long set found told listed needs so.2, ap (λ files. Some files) w)))
+        all_read code job old chunks long 0 [] (Some new) told (λ never. absurd (never gives.0)) (λ _ much. absurd (omega (arith, much, gives.1)))
+        (λ _ _. (refl, refl, (set, found, plan, is_decoded code job old chunks long set found told listed needs gives.2, ap (λ files. Some files) w)))
 
-    by_stop : (s : Stop) → StopsWrite before now job.name s → (status_of s ≡ 5 → Rose was is) → DecodeEnds code job (status_of s) (line_of s) before now was is
-    by_stop (Failed shown) w f = inr (inl ((_, inl w.0, refl, refl, f refl), λ old new b n. told_both before now old new _ b n w.1))
-    by_stop Usage w f = absurd w
-    by_stop (Profile x) w f = absurd w
-    by_stop (Missing x) w f = absurd w
-    by_stop NotDecided w f = absurd w
-    by_stop Lengths w f = absurd w
-    by_stop (TooLong x) w f = absurd w
-    by_stop NoMemory w f = absurd w
-
-    by_result : (r : Result T Stop) → WritesOrStops before now job.name found r → (status_after r ≡ 5 → Rose was is) → (status_after r ≢ 5 → is ≡ was)
-        → DecodeEnds code job (status_after r) (line_after r) before now was is
-    by_result (Ok done) w f q = inl (by_files code job before now 0 [] below decide (λ e. omega arith) (λ e. omega arith) (inl (refl, refl)) (told_files before now has w), q (λ e. omega arith))
-    by_result (Err s) w f q = by_stop s w f
+-- what is written where the chunks make a file, or how far that came
+pub decode_written : {T : Type 0} → (code : CodeRows) (job : Job) (before now : Option FileMap) (was is : ℕ) (rows : List (List ℕ)) (chunks : List (Option (List ℕ))) (long set n count : ℕ)
+    (result : Result T Stop)
+    → AreBelow code.n job.wanted → DecideTheData code job.wanted → WhereTold before (λ files. HasFetched files job chunks long) → IsReadPlan code job.wanted set
+    → NeedsEach code set → ((p : ℕ) → HasPosition set p → IsAmong job.wanted p)
+    → ((found : List ℕ) → IsMade code.k job.unit n rows chunks count found → GivesFile code job.unit job.name long set chunks (Ok found))
+    → WritesMadeOrStops code.k job.unit n rows chunks count before now job.name result
+    → (status_after result ≡ 5 → Rose was is) → (status_after result ≢ 5 → is ≡ was)
+    → DecodeEnds code job (status_after result) (line_after result) before now was is
+decode_written {T} code job before now was is rows chunks long set n count (Ok done) below decide has plan needs listed gives w failed quiet =
+    decode_done code job before now was is chunks long set w.0 below decide has plan needs listed (gives w.0 w.1) w.2 (quiet (λ e. omega arith))
+decode_written {T} code job before now was is rows chunks long set n count (Err (Failed shown)) below decide has plan needs listed gives w failed quiet =
+    inr (inl ((_, inl w.0, refl, refl, failed refl), λ old new b n. told_both before now old new _ b n w.1))
+decode_written {T} code job before now was is rows chunks long set n count (Err NoMemory) below decide has plan needs listed gives w failed quiet =
+    inr (inr ((refl, refl), quiet (λ e. omega arith), w))
+decode_written {T} code job before now was is rows chunks long set n count (Err Usage) below decide has plan needs listed gives w failed quiet = absurd w
+decode_written {T} code job before now was is rows chunks long set n count (Err (Profile x)) below decide has plan needs listed gives w failed quiet = absurd w
+decode_written {T} code job before now was is rows chunks long set n count (Err (Missing x)) below decide has plan needs listed gives w failed quiet = absurd w
+decode_written {T} code job before now was is rows chunks long set n count (Err NotDecided) below decide has plan needs listed gives w failed quiet = absurd w
+decode_written {T} code job before now was is rows chunks long set n count (Err Lengths) below decide has plan needs listed gives w failed quiet = absurd w
+decode_written {T} code job before now was is rows chunks long set n count (Err (TooLong x)) below decide has plan needs listed gives w failed quiet = absurd w
 
 -- what is answered with a reason to stop comes to it
 pub by_reason : {T : Type 0} → (code : CodeRows) (job : Job) (before now : Option FileMap) (was is : ℕ) (result : Result T Stop) (stop : Stop)

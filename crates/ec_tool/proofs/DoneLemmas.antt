@@ -7,7 +7,7 @@ use Rattle.ec_tool.specs.Headline.{Run, Does, IsDone}
 use Rattle.ec_tool.specs.Outcomes.{Codes, EncodeEnds, DecodeEnds}
 use Rattle.ec_tool.specs.Requests.{job_of, Asks}
 use Rattle.ec_tool.specs.Texts.{EndsWith, OneOf}
-use Rattle.ec_tool.specs.Words.{Words, AreDistinct, AskDecode}
+use Rattle.ec_tool.specs.Words.{Words, AskDecode}
 use Rattle.ec_tool.specs.declared.request.Coding.{Coding}
 use Rattle.ec_tool.specs.declared.request.Request.{Request}
 use Rattle.ec_tool.specs.declared.request.Request.TheVariants.{Wrong, Exists, Validate, Size, Encode, Decode}
@@ -37,12 +37,6 @@ pub some_wanted : (words : Words) (request : Request) (coding : Coding) → requ
 some_wanted words request coding is asks = some (subst (λ (r : Request). Asks words r) is asks) where
   some : AskDecode words (job_of coding) → 1 ≤ length coding.wanted.items
   some ask = omega (arith, ap length ask.wanted.spelled, length-slice_split (λ b. b == 44) ask.want_text, length-map coding.wanted.items decimal)
-
--- no position is listed twice
-pub distinct_wanted : (words : Words) (request : Request) (coding : Coding) → request ≡ Decode coding → Asks words request → AreDistinct coding.wanted.items
-distinct_wanted words request coding is asks = some (subst (λ (r : Request). Asks words r) is asks) where
-  some : AskDecode words (job_of coding) → AreDistinct coding.wanted.items
-  some ask = ask.wanted.distinct
 
 pub ends_with_5 : (status ended : ℕ) → OneOf ended (status ∷ 9 ∷ 13 ∷ []) → ended ≡ 5 → status ≡ 5
 ends_with_5 status ended (inl e) five = sym e ∙ five

@@ -1,14 +1,12 @@
 -- Files of chunks, read one after another.
-use Rattle.std.proofs.Common.{◌≡◌, ◌<◌, ◌≤◌, ◌+◌, ℕ, List, [], take, length, get_or, Option, Some, None, IsSome, Result, Ok, Err, ap, sym, subst, ◌∙◌, arith, inl, inr}
+use Rattle.std.proofs.Common.{◌≡◌, ◌<◌, ◌≤◌, ◌+◌, ℕ, List, [], take, length, get_or, Option, Some, None, IsSome, Ok, Err, ap, sym, subst, ◌∙◌, arith, inl, inr}
 use Rattle.std.specs.FinMap as map
-use Rattle.std.specs.Prelude.{IfErr}
-use Rattle.std.specs.Result.{IsErrAnd}
 use Rattle.std.proofs.lemmas.Bool.{cases_eq}
 use Rattle.std.proofs.lemmas.List.{get_or-take, length-take-le}
 use Rattle.stripe_map.specs.Chunks.{chunk_of_position, KeepsOthers}
 use Rattle.ec_tool.specs.Accesses.{ReadsOrStops}
 use Rattle.ec_tool.specs.Chunks.{chunk_name, AreReadable}
-use Rattle.ec_tool.specs.Decoding.{IsAmong, HaveChunks, AreFetched, Fetches, StopsReading}
+use Rattle.ec_tool.specs.Decoding.{AreShort, IsAmong, HaveChunks, AreFetched, Fetches, StopsReading}
 use Rattle.ec_tool.specs.Files.{FileMap, max_file}
 use Rattle.ec_tool.specs.declared.stop.Stop.{Stop}
 use Rattle.ec_tool.specs.declared.stop.Stop.TheVariants.{Usage, Profile, Missing, Failed, NotDecided, Lengths, TooLong, NoMemory}
@@ -103,6 +101,9 @@ stopped_reading (Some files) name listed i chunks (Profile f) lt fetched reads =
 stopped_reading (Some files) name listed i chunks NotDecided lt fetched reads = absurd reads
 stopped_reading (Some files) name listed i chunks Lengths lt fetched reads = absurd reads
 
+no_chunk : (o : Option (List ℕ)) (bytes : List ℕ) → o ≡ None → o ≡ Some bytes → ⊥
+no_chunk o bytes none some = cc
+
 not_there : (o : Option (List ℕ)) → o ≡ None → IsSome o → ⊥
 not_there o none some = cc
 
@@ -113,13 +114,15 @@ pub nothing_fetched : (files : Option FileMap) (name : List ℕ) (chunks : List 
 nothing_fetched None name chunks = tt
 nothing_fetched (Some files) name chunks = λ i lt. absurd (omega (arith, lt))
 
--- reading stopped where memory ran out
-pub out_of_memory : (files : Option FileMap) (name : List ℕ) (listed : List ℕ) (i : ℕ) → i < length listed → StopsReading files name listed NoMemory
-out_of_memory None name listed i lt = (i, lt, tt)
-out_of_memory (Some files) name listed i lt = (i, lt, tt)
+pub nothing_long : (chunks : List (Option (List ℕ))) → ((p : ℕ) → chunk_of_position chunks p ≡ None) → AreShort chunks
+nothing_long chunks none p bytes some = absurd (no_chunk (chunk_of_position chunks p) bytes (none p) some)
 
--- what is answered with a reason to stop reading
-pub stopped_by : {T : Type 0} → (files : Option FileMap) (name : List ℕ) (listed : List ℕ) (answer : Result T Stop) (stop : Stop)
-    → IsErrAnd answer (λ s. s ≡ stop) → StopsReading files name listed stop → IfErr answer (StopsReading files name listed)
-stopped_by {T} files name listed (Ok done) stop is stops = tt
-stopped_by {T} files name listed (Err s) stop is stops = subst (λ (x : Stop). StopsReading files name listed x) (sym is) stops
+same_bytes : (a b : List ℕ) → Some a ≡ Some b → a ≡ b
+same_bytes a b e = cc
+
+pub short_one_more : (old new : List (Option (List ℕ))) (p : ℕ) (bytes : List ℕ) → length bytes ≤ max_file → chunk_of_position new p ≡ Some bytes → KeepsOthers old new p
+    → AreShort old → AreShort new
+short_one_more old new p bytes bound value others short q other some = elim (cases_eq q p) [
+  | inl e ↦ subst (λ (b : List ℕ). length b ≤ max_file) (same_bytes bytes other (sym value ∙ ap (chunk_of_position new) (sym e) ∙ some)) bound
+  | inr ne ↦ short q other (sym (others q ne) ∙ some)
+]

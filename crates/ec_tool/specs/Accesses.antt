@@ -1,7 +1,7 @@
 -- One file read or written, or the reason to stop. Source: this project.
-use Rattle.std.specs.Prelude.{◌≡◌, ◌<◌, ◌≤◌, ⊤, ℕ, List, length, Option, Some, None, Result, Ok, Err, IsSomeAnd, string_bytes}
+use Rattle.std.specs.Prelude.{◌≡◌, ◌<◌, ◌≤◌, ⊤, ℕ, List, length, Bool, true, false, Option, Some, None, Result, Ok, Err, IsSomeAnd, string_bytes}
 use Rattle.std.specs.FinMap as map
-use Rattle.ec_tool.specs.Files.{FileMap, KeepsOthers, max_file}
+use Rattle.ec_tool.specs.Files.{Appends, FileMap, KeepsOthers, Writes, max_file}
 use Rattle.ec_tool.specs.declared.stop.Stop.{Stop}
 use Rattle.ec_tool.specs.declared.stop.Stop.TheVariants.{Missing, Failed, TooLong, NoMemory}
 
@@ -33,12 +33,11 @@ Told (Some old) (Some new) so = so old new
 Told None None so = ⊤
 Told _ _ so = ⊥
 
--- a failure in writing a file: nothing is said of that one file, and all others stay
-abbrev pub StopsWrite : Option FileMap → Option FileMap → List ℕ → Stop → Type 0
-StopsWrite before now name (Failed shown) = (string_bytes shown ≡ name) × Told before now (λ old new. KeepsOthers old new name)
-StopsWrite before now name _ = ⊥
-
 -- the file of this name has these bytes, and all others stay
-abbrev pub WritesOrStops : {T : Type 0} → Option FileMap → Option FileMap → List ℕ → List ℕ → Result T Stop → Type 0
-WritesOrStops {T} before now name bytes (Ok done) = Told before now (λ old new. new ≡ map.insert old name bytes)
-WritesOrStops {T} before now name bytes (Err stop) = StopsWrite before now name stop
+abbrev pub HasFile : List ℕ → List ℕ → FileMap → FileMap → Type 0
+HasFile name bytes old new = new ≡ map.insert old name bytes
+
+-- a piece was made the first bytes of a file, or was added to it
+abbrev pub Puts : {T E : Type 0} → Option FileMap → Option FileMap → List ℕ → Bool → List ℕ → Result T E → Type 0
+Puts {T} {E} before now name true piece result = Writes before now name piece result
+Puts {T} {E} before now name false piece result = Appends before now name piece result

@@ -18,6 +18,10 @@ IsAmong positions p = (i : ℕ) × ((i < length positions) × (slice_index posit
 abbrev pub HaveChunks : List ℕ → List (Option (List ℕ)) → Type 0
 HaveChunks positions chunks = (p : ℕ) → IsSome (chunk_of_position chunks p) ↔ IsAmong positions p
 
+-- each chunk that is there can be that of a file
+abbrev pub AreShort : List (Option (List ℕ)) → Type 0
+AreShort chunks = (p : ℕ) (bytes : List ℕ) → chunk_of_position chunks p ≡ Some bytes → length bytes ≤ max_file
+
 -- each of these positions has the chunks of its file
 abbrev pub AreFetched : FileMap → List ℕ → List ℕ → List (Option (List ℕ)) → Type 0
 AreFetched files name positions chunks =

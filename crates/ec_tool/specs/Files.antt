@@ -1,5 +1,5 @@
 -- What is known of files. Source: this project. A name is its bytes.
-use Rattle.std.specs.Prelude.{◌≡◌, ◌≢◌, ◌<◌, ◌≤◌, ◌^◌, ℕ, List, length, Option, Some, None, Result, Ok, Err, IsSomeAnd, MatchResult, ⊤}
+use Rattle.std.specs.Prelude.{◌≡◌, ◌≢◌, ◌<◌, ◌≤◌, ◌^◌, ℕ, List, [], ◌++◌, length, Option, Some, None, Result, Ok, Err, IsSomeAnd, MatchResult, ⊤}
 use Rattle.std.specs.Ordering.{nat_cmp}
 use Rattle.std.specs.Cmp.Lexicographic.{slice_cmp}
 use Rattle.std.specs.FinMap as map
@@ -40,6 +40,19 @@ Writes None new name bytes result = new ≡ None
 Writes (Some old) None name bytes result = ⊥
 Writes (Some old) (Some new) name bytes result =
     MatchResult result (λ _. new ≡ map.insert old name bytes) (λ _. KeepsOthers old new name)
+
+-- the bytes of a file, and none where it is not there
+abbrev pub content : Option (List ℕ) → List ℕ
+content (Some bytes) = bytes
+content None = []
+
+-- the file of this name has these bytes more at its end, and all others stay; at a failure nothing is said of that one file.
+-- Whether the files are told stays
+abbrev pub Appends : {T E : Type 0} → Option FileMap → Option FileMap → List ℕ → List ℕ → Result T E → Type 0
+Appends None new name bytes result = new ≡ None
+Appends (Some old) None name bytes result = ⊥
+Appends (Some old) (Some new) name bytes result =
+    MatchResult result (λ _. new ≡ map.insert old name (content (map.get old name) ++ bytes)) (λ _. KeepsOthers old new name)
 
 -- the count of a read: it never falls, stays at each answer but `Failed`, rises there, and stands still at the
 -- largest

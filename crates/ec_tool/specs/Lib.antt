@@ -3,12 +3,13 @@ pub mod Chunks
 pub mod Decoding
 pub mod Encoding
 pub mod Files
-pub mod Gathering
 pub mod Headline
 pub mod Jobs
+pub mod Joining
 pub mod Laws
 pub mod MemFiles
 pub mod Outcomes
+pub mod Pieces
 pub mod Requests
 pub mod Runs
 pub mod Sameness

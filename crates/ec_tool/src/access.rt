@@ -1,14 +1,15 @@
-//! Reading and writing one file, and the reason to stop where that is not possible.
+//! Reading one file, and writing a piece of one.
 ghost use Rattle.std.specs.Prelude.{◌≡◌, ◌≢◌, ◌≤◌, ℕ, List, Option, Ok, Err, IfOk, IfErr, IsErr, OnOk, length, string_bytes};
 ghost use Rattle.std.specs.FinMap as map;
-ghost use Rattle.rig_disk.specs.Faults.{Rose};
+ghost use Rattle.rig_disk.specs.Faults.{HasCause, Rose};
 ghost use Rattle.ec_tool.specs.Files.{max_file};
-ghost use Rattle.ec_tool.specs.Accesses.{ReadsOrStops, WritesOrStops};
+ghost use Rattle.ec_tool.specs.Accesses.{Puts, ReadsOrStops};
 ghost use Rattle.ec_tool.specs.Stops.{status_after};
 
 use crate::stop::Stop;
 use crate::{FileFault, Files};
 use ec_words::Bytes;
+use rig_disk::Failed;
 use std::alloc::Global;
 
 /// All bytes of a file.
@@ -28,14 +29,14 @@ pub fn read<F: Files>(alloc: Global, name: String, files: &mut F) -> Result<Byte
     }
 }
 
-/// Makes these the bytes of a file.
-pub fn write<F: Files>(name: String, bytes: &[u8], files: &mut F) -> Result<(), Stop>
-    ensures value { WritesOrStops (F.files files.old) (F.files files.new) (string_bytes name) bytes.now result }
-    ensures failed { status_after result ≡ 5 → Rose (F.faults files.old) (F.faults files.new) }
-    ensures quiet { status_after result ≢ 5 → F.faults files.new ≡ F.faults files.old }
+/// Makes a piece the first bytes of a file, or adds it to the file.
+pub fn put<F: Files>(name: &str, first: bool, piece: &[u8], files: &mut F) -> Result<(), Failed>
+    ensures value { Puts (F.files files.old) (F.files files.new) name.now first piece.now result }
+    ensures cause { HasCause (F.faults files.old) (F.faults files.new) result }
 {
-    match files.write_file(&name, bytes) {
-        Ok(()) => Ok(()),
-        Err(_) => Err(Stop::Failed(name)),
+    if first {
+        files.write_file(name, piece)
+    } else {
+        files.append_file(name, piece)
     }
 }

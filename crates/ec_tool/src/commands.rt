@@ -9,7 +9,7 @@ ghost use Rattle.ec_tool.specs.Outcomes.{Shows, Codes, EncodeEnds, DecodeEnds};
 ghost use Rattle.ec_tool.specs.Requests.{job_of};
 ghost use Rattle.ec_tool.specs.Stops.{StopsByJob, status_after, line_after, shown_after};
 ghost use Rattle.ec_tool.specs.Runs.{parameters_text, size_text};
-ghost use Rattle.ec_tool.specs.Words.{AreDistinct, texts_of, max_size};
+ghost use Rattle.ec_tool.specs.Words.{texts_of, max_size};
 
 use crate::Files;
 use crate::decoding::decode_file;
@@ -107,7 +107,6 @@ pub fn decode<F: Files>(
 ) -> Result<(), Stop>
     requires boxes { (q : _) → (i : ℕ) × (i < length codes.old) × ((d : _) → plugin_name (slice_index_or codes.old i d) ≡ name_of q) }
     requires some { 1 ≤ length job.now.wanted.items }
-    requires distinct { AreDistinct job.now.wanted.items }
     ensures value { Codes DecodeEnds (job_of job.now) (status_after result) (line_after result) (F.files files.old) (F.files files.new) (F.faults files.old) (F.faults files.new) }
     ensures failed { status_after result ≡ 5 → Rose (F.faults files.old) (F.faults files.new) }
     ensures boxes { length codes.new ≡ length codes.old }

@@ -3,22 +3,21 @@ ghost use Rattle.std.specs.Prelude.{◌≡◌, ◌≢◌, ◌≤◌, ◌↔◌, 
 ghost use Rattle.ec_code.specs.Bounds.{IsUnit};
 ghost use Rattle.rig_disk.specs.Faults.{Rose};
 ghost use Rattle.ec_model.specs.Codes.{IsCode, HasPosition, LiesBelow};
+ghost use Rattle.stripe_map.specs.Chunks.{chunk_of_position};
 ghost use Rattle.stripe_map.specs.Decoding.{DecidesData};
 ghost use Rattle.stripe_map.specs.DecodingLaws.{IsDataMask};
 ghost use Rattle.ec_tool.specs.Chunks.{AreBelow, DecideTheData, IsReadPlan, chunk_name};
 ghost use Rattle.ec_tool.specs.Accesses.{ReadsOrStops};
-ghost use Rattle.ec_tool.specs.Decoding.{IsAmong, StopsReading};
+ghost use Rattle.ec_tool.specs.Decoding.{AreShort, IsAmong, HaveChunks, Fetches, StopsReading};
 ghost use Rattle.ec_tool.specs.Files.{max_file};
-ghost use Rattle.ec_tool.specs.Gathering.{IsGathered, GivesGathered};
+ghost use Rattle.ec_tool.specs.Joining.{ChecksLengths};
 ghost use Rattle.ec_tool.specs.Requests.{job_of};
 ghost use Rattle.ec_tool.specs.Outcomes.{DecodeEnds};
 ghost use Rattle.ec_tool.specs.Stops.{status_after, line_after};
-ghost use Rattle.ec_tool.specs.Words.{AreDistinct};
 
-use crate::access::{read, write};
-use crate::adding::take;
-use crate::gathering::Gathered;
+use crate::access::read;
 use crate::geometry::geometry;
+use crate::joining::write_object;
 use crate::naming::chunk_name;
 use crate::positions::{positions, set_of};
 use crate::request::Coding;
@@ -28,7 +27,7 @@ use ec_code::Code;
 use ec_words::{Bytes, Geometry, Mask};
 use read_plan::plan;
 use std::alloc::Global;
-use stripe_map::data_rows;
+use stripe_map::{Chunks, data_rows};
 
 /// Writes the file that the chunks of the listed positions are of.
 pub fn decode_file<F: Files>(
@@ -39,7 +38,6 @@ pub fn decode_file<F: Files>(
 ) -> Result<(), Stop>
     requires unit { IsUnit job.now.unit }
     requires some { 1 ≤ length job.now.wanted.items }
-    requires distinct { AreDistinct job.now.wanted.items }
     ensures value { DecodeEnds (meaning code.now) (job_of job.now) (status_after result) (line_after result)
         (F.files files.old) (F.files files.new) (F.faults files.old) (F.faults files.new) }
     ensures is_code { IsCode (meaning code.now) }
@@ -68,7 +66,6 @@ fn decode_listed<F: Files>(
 ) -> Result<(), Stop>
     requires same { listed.now ≡ job.now.wanted.items }
     requires some { 1 ≤ length listed.now }
-    requires distinct { AreDistinct listed.now }
     requires below { AreBelow (meaning code.now).n listed.now }
     requires few { (meaning code.now).n ≤ 16 }
     requires same_k { g.k ≡ (meaning code.now).k }
@@ -80,10 +77,21 @@ fn decode_listed<F: Files>(
     let Some(plan) = read_set(code, listed) else {
         return Err(Stop::NotDecided);
     };
-    let gathered = gather(alloc, job.name, code, g, plan, listed, files)?;
-    let bytes = file_of(alloc, job.name, g, gathered)?;
-    let name = String::from_str(alloc, job.name)?;
-    write(name, bytes.as_slice(), files)
+    let chunks = read_chunks(alloc, job.name, listed, files)?;
+    let long = first_length(listed, &chunks);
+    check_lengths(alloc, job.name, g, long, &chunks)?;
+    let rows = data_rows(code, plan);
+    let count = long / g.unit as usize;
+    write_object(
+        alloc,
+        job.name,
+        &rows,
+        g,
+        code.shape().n,
+        &chunks,
+        count,
+        files,
+    )
 }
 
 // The set of the listed positions that is read: none where they do not decide the data.
@@ -112,45 +120,28 @@ fn data_set(code: &dyn Code) -> Mask
     Mask(bits)
 }
 
-// What the chunks of the listed positions make by those of a set, each read from a file of its own and then let go.
-fn gather<F: Files>(
+// The chunks of each listed position, from a file of their own each.
+fn read_chunks<F: Files>(
     alloc: Global,
     name: &str,
-    code: &dyn Code,
-    g: Geometry,
-    set: Mask,
     listed: &[u8],
     files: &mut F,
-) -> Result<Gathered, Stop>
-    requires is_code { IsCode (meaning code.now) }
-    requires some { 1 ≤ length listed.now }
-    requires below { AreBelow (meaning code.now).n listed.now }
-    requires distinct { AreDistinct listed.now }
-    requires same_k { g.k ≡ (meaning code.now).k }
-    requires within { LiesBelow (meaning code.now).n set.0 }
-    requires decides { DecidesData (meaning code.now) set.0 }
-    requires among { (p : ℕ) → HasPosition set.0 p → IsAmong listed.now p }
-    ensures value { IfOk result (IsGathered (meaning code.now) g.unit set.0 (F.files files.old) name.now listed.now) }
+) -> Result<Chunks, Stop>
+    requires { AreBelow 16 listed.now }
+    ensures value { IfOk result (Fetches (F.files files.old) name.now listed.now) }
+    ensures there { IfOk result (HaveChunks listed.now) }
+    ensures short { IfOk result AreShort }
     ensures stopped { IfErr result (StopsReading (F.files files.old) name.now listed.now) }
     ensures kept { F.files files.new ≡ F.files files.old }
     ensures failed { status_after result ≡ 5 → Rose (F.faults files.old) (F.faults files.new) }
     ensures quiet { status_after result ≢ 5 → F.faults files.new ≡ F.faults files.old }
 {
-    let rows = data_rows(code, set);
-    let mut gathered = Gathered::new(alloc);
+    let mut chunks = Chunks::new();
     for i in 0..listed.len() {
         let bytes = read_chunk(alloc, name, listed[i], files)?;
-        take(
-            alloc,
-            &rows,
-            g,
-            listed[i],
-            i == 0,
-            bytes.as_slice(),
-            &mut gathered,
-        )?;
+        chunks.set(listed[i], bytes);
     }
-    Ok(gathered)
+    Ok(chunks)
 }
 
 // The chunks of one position.
@@ -165,15 +156,38 @@ fn read_chunk<F: Files>(alloc: Global, name: &str, p: u8, files: &mut F) -> Resu
     read(alloc, file, files)
 }
 
-// The file that was gathered. All chunks have one length, which is that of whole units.
-fn file_of(alloc: Global, name: &str, g: Geometry, gathered: Gathered) -> Result<Bytes, Stop>
-    ensures { GivesGathered g.k g.unit name.now gathered result }
+// The length of the first listed position's chunks.
+fn first_length(listed: &[u8], chunks: &Chunks) -> usize
+    requires { AreBelow 16 listed.now }
+    ensures short { AreShort chunks.now → result ≤ max_file }
+    ensures value { (bytes : List ℕ) → 1 ≤ length listed.now
+        → chunk_of_position chunks.now (slice_index listed.now 0) ≡ Some bytes → result ≡ length bytes }
 {
-    if gathered.long % g.unit as usize != 0 || !gathered.alike {
+    match listed.first() {
+        Some(p) => match chunks.get(*p) {
+            Some(bytes) => bytes.len(),
+            None => 0,
+        },
+        None => 0,
+    }
+}
+
+// Whether the chunks make a file: all have one length, which is that of whole units, and the file is not too long.
+fn check_lengths(
+    alloc: Global,
+    name: &str,
+    g: Geometry,
+    long: usize,
+    chunks: &Chunks,
+) -> Result<(), Stop>
+    requires { long ≤ max_file }
+    ensures { ChecksLengths g.k g.unit name.now long chunks.now result }
+{
+    if long % g.unit as usize != 0 || !chunks.have_length(long) {
         return Err(Stop::Lengths);
     }
-    if gathered.long * g.k as usize > MAX_FILE {
+    if long * g.k as usize > MAX_FILE {
         return Err(Stop::TooLong(String::from_str(alloc, name)?));
     }
-    Ok(Bytes::of(gathered.whole))
+    Ok(())
 }

@@ -1,18 +1,17 @@
 //! Real files ([`DiskFiles`]). It tells no files, so what it reads and writes is tested and trusted, and its count of
 //! faults is proved.
 ghost use Rattle.std.specs.Prelude.{◌≡◌, ◌≤◌, Option, None, length, IfOk};
+ghost use Rattle.rig_disk.specs.Faults.{HasCause};
 
+use crate::limits::PIECE;
 use crate::{FileFault, Files, MAX_FILE};
 use ec_words::Bytes;
 use rig_disk::Failed;
 use std::alloc::Global;
-use std::fs::OpenFile;
+use std::fs::{OpenFile, OpenOptions};
 use std::io::{ErrorKind, Read, Write};
 use std::rt::Runtime;
 use std::{fs, io};
-
-/// The bytes that one read asks for.
-const PIECE: usize = 1 << 18;
 
 /// The files of the system, by their paths.
 #[derive(Drop)]
@@ -27,6 +26,19 @@ impl<T: Runtime> DiskFiles<T> {
         ensures { ⟦<DiskFiles<T> as Files>⟧.faults result ≡ 0 }
     {
         DiskFiles { rt, faults: 0 }
+    }
+
+    // Counts a write that failed.
+    fn counted(&mut self, answer: io::Result<()>) -> Result<(), Failed>
+        ensures { HasCause self.old.faults self.new.faults result }
+    {
+        match answer {
+            Ok(()) => Ok(()),
+            Err(_) => {
+                self.faults = self.faults.saturating_add(1);
+                Err(Failed)
+            }
+        }
     }
 }
 
@@ -46,13 +58,13 @@ impl<T: Runtime> Files for DiskFiles<T> {
     }
 
     fn write_file(&mut self, name: &str, bytes: &[u8]) -> Result<(), Failed> {
-        match write_whole(&self.rt, name, bytes) {
-            Ok(()) => Ok(()),
-            Err(_) => {
-                self.faults = self.faults.saturating_add(1);
-                Err(Failed)
-            }
-        }
+        let answer = write_whole(&self.rt, name, bytes);
+        self.counted(answer)
+    }
+
+    fn append_file(&mut self, name: &str, bytes: &[u8]) -> Result<(), Failed> {
+        let answer = append_piece(&self.rt, name, bytes);
+        self.counted(answer)
     }
 }
 
@@ -73,17 +85,17 @@ fn read_opened<F: Read + OpenFile + Drop>(file: F, alloc: Global) -> Result<Byte
     match file.metadata() {
         Ok(found) if found.is_dir() => Err(FileFault::Failed),
         Ok(found) if found.len() > MAX_FILE as u64 => Err(FileFault::TooLong),
-        Ok(_) => read_pieces(file, alloc),
+        Ok(found) => read_pieces(file, alloc, found.len() as usize),
         Err(_) => Err(FileFault::Failed),
     }
 }
 
-// Reads to the end, and gives up where there are too many bytes: a file may have grown.
-fn read_pieces<F: Read + Drop>(mut file: F, alloc: Global) -> Result<Bytes, FileFault>
+// Reads to the end, with memory for a file of this length, and gives up where there are too many bytes: a file may have grown.
+fn read_pieces<F: Read + Drop>(mut file: F, alloc: Global, long: usize) -> Result<Bytes, FileFault>
     ensures bound { IfOk result (λ bytes. length bytes ≤ MAX_FILE) }
 {
     let mut piece = vec![in alloc; 0u8; PIECE]?;
-    let mut list = Vec::new(alloc);
+    let mut list = Vec::with_capacity(alloc, long)?;
     for _ in 0..u64::MAX {
         if read_piece(&mut file, &mut piece, &mut list)? {
             return Ok(Bytes::of(list));
@@ -129,6 +141,12 @@ fn write_whole<T: Runtime>(rt: &T, name: &str, bytes: &[u8]) -> io::Result<()> {
     file.write_all(bytes)
 }
 
+// A failure may leave a part of the piece.
+fn append_piece<T: Runtime>(rt: &T, name: &str, bytes: &[u8]) -> io::Result<()> {
+    let mut file = OpenOptions::new().append(true).create(true).open(rt, name)?;
+    file.write_all(bytes)
+}
+
 #[cfg(test)]
 mod tests {
     use super::*;
@@ -156,6 +174,27 @@ mod tests {
             );
         }
         fs::remove_dir_all(&rt, "files_test")?;
+        Ok(())
+    }
+
+    #[test]
+    fn a_real_file_grows_by_what_is_appended(rt: HostRuntime) -> Result<(), Fail> {
+        let alloc = rt.alloc();
+        fs::create_dir_all(&rt, "grown_test/folder")?;
+        let mut disk = DiskFiles::new(rt);
+        let rows: [(&str, &[u8], &[u8]); 3] = [
+            ("grown_test/a", b"one", b"one"),
+            ("grown_test/a", b"", b"one"),
+            ("grown_test/a", b"two", b"onetwo"),
+        ];
+        for (name, piece, whole) in rows {
+            assert_eq!(rt; disk.append_file(name, piece), Ok(()));
+            assert!(rt; disk.read_file(alloc, name)?.as_slice() == whole);
+        }
+        for name in ["grown_test/folder", "grown_test/none/a", ""] {
+            assert_eq!(rt; disk.append_file(name, b"x"), Err(Failed), "at {name}");
+        }
+        fs::remove_dir_all(&rt, "grown_test")?;
         Ok(())
     }
 
@@ -229,10 +268,10 @@ mod tests {
         rt: HostRuntime,
     ) -> Result<(), Fail> {
         let alloc = rt.alloc();
-        let whole = read_pieces(Broken { reads: 0, last: 0 }, alloc)?;
+        let whole = read_pieces(Broken { reads: 0, last: 0 }, alloc, 4)?;
         assert_eq!(rt; whole.as_slice(), [1u8, 3, 4, 5].as_slice());
         for last in [1, 3, 6] {
-            let answer = read_pieces(Broken { reads: 0, last }, alloc);
+            let answer = read_pieces(Broken { reads: 0, last }, alloc, 4);
             assert_eq!(rt; answer, Err(FileFault::Failed), "at {last}");
         }
         Ok(())
@@ -244,7 +283,7 @@ mod tests {
         let alloc = rt.alloc();
         let bytes = vec![in alloc; 0u8; MAX_FILE + 1]?;
         assert_eq!(rt;
-            read_pieces(bytes.as_slice(), alloc),
+            read_pieces(bytes.as_slice(), alloc, MAX_FILE),
             Err(FileFault::TooLong)
         );
         Ok(())

@@ -1,14 +1,14 @@
-//! Files, read and written whole.
+//! Files, read whole, and written whole or piece after piece.
 ghost use Rattle.std.specs.Prelude.{◌≡◌, ◌≤◌, ℕ, List, Option, length, IfOk};
 ghost use Rattle.rig_disk.specs.Faults.{HasCause};
-ghost use Rattle.ec_tool.specs.Files.{FileMap, HasReadCause, Reads, Writes};
+ghost use Rattle.ec_tool.specs.Files.{Appends, FileMap, HasReadCause, Reads, Writes};
 
 use crate::{FileFault, MAX_FILE};
 use ec_words::Bytes;
 use rig_disk::Failed;
 use std::alloc::Global;
 
-/// Files by their names, read and written whole.
+/// Files by their names, read whole, and written whole or piece after piece.
 pub trait Files {
     /// The files with their bytes, where the implementor tells them.
     ghost files: { Self → Option FileMap };
@@ -27,5 +27,11 @@ pub trait Files {
     /// there or not; all others stay.
     fn write_file(&mut self, name: &str, bytes: &[u8]) -> Result<(), Failed>
         ensures written { Writes (files self.old) (files self.new) name.now bytes.now result }
+        ensures cause { HasCause (faults self.old) (faults self.new) result };
+
+    /// Adds bytes at the end of a file, which has none before where it is not there. After `Failed` that file may have any
+    /// bytes, or be there or not; all others stay.
+    fn append_file(&mut self, name: &str, bytes: &[u8]) -> Result<(), Failed>
+        ensures written { Appends (files self.old) (files self.new) name.now bytes.now result }
         ensures cause { HasCause (faults self.old) (faults self.new) result };
 }

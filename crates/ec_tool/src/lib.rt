@@ -9,15 +9,14 @@
 #![tactic(auto)]
 
 mod access;
-mod adding;
 mod commands;
 mod decoding;
 mod edge;
 mod encoding;
 mod fault;
 mod files;
-mod gathering;
 mod geometry;
+mod joining;
 mod laws;
 mod limits;
 mod mem_files;

@@ -1,5 +1,5 @@
 //! Files in memory for tests, which tell all and fail where it is planned.
-ghost use Rattle.std.specs.Prelude.{◌≡◌, ◌≤◌, ◌↔◌, ◌-◌, Option, Some, Err, length, IfOk, OnOk, OnErr, IsErr, option_copied};
+ghost use Rattle.std.specs.Prelude.{◌≡◌, ◌≤◌, ◌↔◌, ◌-◌, ◌++◌, Option, Some, Err, length, IfOk, OnOk, OnErr, IsErr, option_copied};
 ghost use Rattle.std.specs.FinMap as map;
 
 use crate::{FileFault, Files, MAX_FILE};
@@ -19,6 +19,7 @@ pub struct MemFiles {
 
 impl MemFiles {
     ghost use Rattle.rig_disk.specs.Faults.{HasCause};
+    ghost use Rattle.ec_tool.specs.Files.{content};
     ghost use Rattle.ec_tool.specs.MemFiles.{IsNew, files_of, faults_of, planned_of};
 
     /// No files, no fault, and none planned.
@@ -89,11 +90,30 @@ impl MemFiles {
         let copy = Bytes::from_slice(self.alloc, bytes)?;
         self.put(name, copy)
     }
+
+    fn put_more(&mut self, name: &str, bytes: &[u8]) -> Result<(), NoMemory>
+        ensures ok { OnOk result (files_of self.new ≡ map.insert (files_of self.old) name.now (content (map.get (files_of self.old) name.now) ++ bytes.now)) }
+        ensures unchanged { OnErr result (files_of self.new ≡ files_of self.old) }
+        ensures faults { faults_of self.new ≡ faults_of self.old }
+        ensures planned { planned_of self.new ≡ planned_of self.old }
+    {
+        let mut whole = self.copy_of(name)?;
+        whole.extend_from_slice(bytes)?;
+        self.put(name, Bytes::of(whole))
+    }
+
+    // The bytes of a file, and none where it is not there.
+    fn copy_of(&self, name: &str) -> Result<Vec<u8>, NoMemory>
+        ensures { IfOk result (λ copy. copy.items ≡ content (map.get (files_of self.now) name.now)) }
+    {
+        let there = self.bytes(name).unwrap_or(&[]);
+        Ok(Vec::from_slice(self.alloc, there)?)
+    }
 }
 
 impl Files for MemFiles {
     ghost use Rattle.rig_disk.specs.Faults.{HasCause};
-    ghost use Rattle.ec_tool.specs.Files.{FileMap, HasReadCause, Reads, Writes};
+    ghost use Rattle.ec_tool.specs.Files.{Appends, FileMap, HasReadCause, Reads, Writes};
     ghost use Rattle.ec_tool.specs.MemFiles.{files_of, faults_of, planned_of};
 
     ghost files = { λ mem. Some (files_of mem) };
@@ -132,6 +152,21 @@ impl Files for MemFiles {
         }
         Ok(())
     }
+
+    fn append_file(&mut self, name: &str, bytes: &[u8]) -> Result<(), Failed>
+        ensures written { Appends (Some (files_of self.old)) (Some (files_of self.new)) name.now bytes.now result }
+        ensures unchanged { OnErr result (files_of self.new ≡ files_of self.old) }
+        ensures cause { HasCause (faults_of self.old) (faults_of self.new) result }
+        ensures planned { planned_of self.old ≡ 1 → IsErr result }
+        ensures counted { planned_of self.new ≡ planned_of self.old - 1 }
+    {
+        self.count_call()?;
+        if self.put_more(name, bytes).is_err() {
+            self.faults = self.faults.saturating_add(1);
+            return Err(Failed);
+        }
+        Ok(())
+    }
 }
 
 #[cfg(test)]
@@ -162,6 +197,32 @@ mod tests {
         assert_eq!(rt; files.bytes("b"), Some(b"".as_slice()));
         assert_eq!(rt; files.bytes("ab"), None);
         assert_eq!(rt; files.read_file(alloc, "ab"), Err(FileFault::Missing));
+        Ok(())
+    }
+
+    // From the rule: a piece stands behind what the file has.
+    #[test]
+    fn a_file_grows_by_what_is_appended(rt: HostRuntime) -> Result<(), Fail> {
+        let alloc = rt.alloc();
+        let mut files = MemFiles::new(alloc)?;
+        let rows: [(&str, &[u8], &[u8]); 5] = [
+            ("a", b"one", b"one"),
+            ("a", b"", b"one"),
+            ("b", b"", b""),
+            ("b", b"x", b"x"),
+            ("a", b"two", b"onetwo"),
+        ];
+        for (name, piece, whole) in rows {
+            assert_eq!(rt; files.append_file(name, piece), Ok(()), "at {name}");
+            assert_eq!(rt;
+                files.read_file(alloc, name)?.as_slice(),
+                whole,
+                "at {name}"
+            );
+        }
+        files.fail_at(1);
+        assert!(rt; files.append_file("a", b"three").is_err());
+        assert_eq!(rt; files.bytes("a"), Some(b"onetwo".as_slice()));
         Ok(())
     }
 

@@ -6,7 +6,13 @@ use Rattle.ec_tool.specs.Encoding.{WritesChunks}
 use Rattle.ec_tool.specs.Files.{FileMap}
 use Rattle.ec_tool.specs.Requests.{job_of}
 use Rattle.ec_tool.proofs.EncodeLemmas.{encode_done}
+use Rattle.std.proofs.lemmas.Nat.{mul-le}
+use Rattle.ec_tool.proofs.PaddedLemmas.{whole_stripes, whole_written}
 use Rattle.ec_tool.proofs.encoding.encode_file.Goals as goal
+
+pub write_chunks-requires-clause-whole : goal.write_chunks-requires-clause-whole
+write_chunks-requires-clause-whole g c = whole_stripes c.geometry-g.result.k c.geometry-g.result.unit c.in_ok-bytes.bytes c.deref-3.result.now
+    (mul-le 1 1 c.geometry-g.result.k c.geometry-g.result.unit c.geometry-g.result.some_chunks c.geometry-g.result.some_bytes) (c.deref-3.ensures.value ∙ c.in_ok-whole.ensures)
 
 pub returns-clause-value : goal.returns-clause-value
 returns-clause-value g c =
@@ -18,8 +24,11 @@ returns-clause-value g c =
     let below0 = subst (λ (w : List ℕ). AreBelow c.shape-shape.result.n w) c.deref.ensures.value c.in_ok-wanted.ensures.below in
     let below = subst (λ (n : ℕ). AreBelow n job.wanted) c.shape-shape.ensures.0.same_n below0 in
     let reads = subst (λ (n : List ℕ). ReadsOrStops (files c.args.files.now) n (Ok c.in_ok-bytes.bytes)) c.in_ok-name.ensures.ok c.in_ok-bytes.ensures.value in
-    let writes1 = subst (λ (u : ℕ). WritesChunks code u job.name c.as_slice.result.now c.deref-2.result.now (files c.read.new.files) now result) c.geometry-g.ensures.unit c.write_chunks.ensures.value in
-    let writes2 = subst (λ (b : List ℕ). WritesChunks code job.unit job.name b c.deref-2.result.now (files c.read.new.files) now result) c.as_slice.ensures writes1 in
+    let stripe = c.geometry-g.result in
+    let some = mul-le 1 1 stripe.k stripe.unit stripe.some_chunks stripe.some_bytes in
+    let same = c.geometry-g.ensures.k ∙ c.shape-shape.ensures.0.same_k in
+    let padded_list = whole_written code stripe.k stripe.unit job.name c.in_ok-bytes.bytes c.deref-3.result.now c.deref-2.result.now (files c.read.new.files) now result same some (c.deref-3.ensures.value ∙ c.in_ok-whole.ensures) c.write_chunks.ensures.value in
+    let writes2 = subst (λ (u : ℕ). WritesChunks code u job.name c.in_ok-bytes.bytes c.deref-2.result.now (files c.read.new.files) now result) c.geometry-g.ensures.unit padded_list in
     let writes3 = subst (λ (w : List ℕ). WritesChunks code job.unit job.name c.in_ok-bytes.bytes w (files c.read.new.files) now result) (c.deref-2.ensures.value ∙ c.in_ok-wanted.ensures.same ∙ c.deref.ensures.value) writes2 in
     let writes = subst (λ (b : Option FileMap). WritesChunks code job.unit job.name c.in_ok-bytes.bytes job.wanted b now result) c.in_ok-bytes.ensures.kept writes3 in
     let quiet = c.in_ok-bytes.ensures.quiet (λ e. omega arith) in

@@ -9,6 +9,7 @@ loop-i-preserved g c =
       next_chunks code c.args.g.unit c.args.name.now c.args.bytes.now c.args.wanted.now c.loop-i.i (files c.args.files.now) (files c.loop-i.files) (files c.write_chunk.new.files)
           c.loop-i-test.true c.loop-i.invariant.0 c.in_ok-write_chunk.ensures.value,
       c.in_ok-write_chunk.ensures.quiet (λ e. omega arith) ∙ c.loop-i.invariant.1,
+      c.write_chunk.ensures.room ∙ c.loop-i.invariant.2,
     )
 
 pub returns-in_err-write_chunk-clause-value : goal.returns-in_err-write_chunk-clause-value

@@ -1,11 +1,8 @@
-use Rattle.ec_tool.proofs.DoneLemmas.{encode_is_done, decode_is_done, some_wanted, distinct_wanted, ends_with_5}
+use Rattle.ec_tool.proofs.DoneLemmas.{encode_is_done, decode_is_done, some_wanted, ends_with_5}
 use Rattle.ec_tool.proofs.program.serve.Goals as goal
 
 pub decode-requires-clause-some : goal.decode-requires-clause-some
 decode-requires-clause-some g c = some_wanted c.requires.asked.0 c.args.request.now c.in-Decode.job c.in-Decode.is c.requires.asked.1
-
-pub decode-requires-clause-distinct : goal.decode-requires-clause-distinct
-decode-requires-clause-distinct g c = distinct_wanted c.requires.asked.0 c.args.request.now c.in-Decode.job c.in-Decode.is c.requires.asked.1
 
 pub returns-in-Encode-clause-done : goal.returns-in-Encode-clause-done
 returns-in-Encode-clause-done g c = encode_is_done _ c.args.request.now c.in-Encode.job _ _ _ c.in-Encode.is c.encode.ensures.value c.end.ensures.ends
