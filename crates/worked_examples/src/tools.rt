@@ -127,6 +127,51 @@ fn example_22_the_file_comes_back(rt: HostRuntime) -> Result<(), Fail> {
     Ok(())
 }
 
+// Whether a file of `long` bytes that rise and begin again comes back from two of its three chunk files, as `whole` bytes with zeros
+// at the end.
+fn long_file_comes_back(
+    alloc: Global,
+    long: usize,
+    whole: usize,
+    listed: &str,
+) -> Result<bool, Fail> {
+    let mut bytes = Vec::new(alloc);
+    for i in 0..long {
+        bytes.push((i % 251) as u8)?;
+    }
+    let mut files = MemFiles::new(alloc)?;
+    let mut rig = MemRig::new(alloc)?;
+    files.put("f", ec_words::Bytes::from_slice(alloc, &bytes)?)?;
+    let words = ["encode", "k=2,m=1", "4096", "0,1,2", "f"];
+    let first = ended(alloc, &words, &mut files, &mut rig)?;
+    files.put("f", ec_words::Bytes::new(alloc))?;
+    let words = ["decode", "k=2,m=1", "4096", listed, "f"];
+    let then = ended(alloc, &words, &mut files, &mut rig)?;
+    bytes.resize(whole, 0)?;
+    Ok(first == 0 && then == 0 && files.bytes("f") == Some(bytes.as_slice()))
+}
+
+// From the rule: pieces of 256 KiB are 512 KiB of a file of two data chunks, and 256 KiB of what is decoded.
+#[test]
+fn example_22_a_file_of_several_pieces_comes_back(rt: HostRuntime) -> Result<(), Fail> {
+    let alloc = rt.alloc();
+    let rows: [(usize, usize, &str); 6] = [
+        (262144, 262144, "0,1"),
+        (262145, 270336, "2,0"),
+        (524287, 524288, "1,2"),
+        (524288, 524288, "2,1"),
+        (524289, 532480, "0,2"),
+        (1100000, 1105920, "1,2"),
+    ];
+    for (long, whole, listed) in rows {
+        assert!(rt;
+            long_file_comes_back(alloc, long, whole, listed)?,
+            "{long} at {listed}"
+        );
+    }
+    Ok(())
+}
+
 // From the rule: what was written before a failure stays. The read is the first call.
 #[test]
 fn example_24_files_stay_as_they_are_at_a_failure(rt: HostRuntime) -> Result<(), Fail> {
