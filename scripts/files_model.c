@@ -1,34 +1,37 @@
-/* What `ceph_ec_tool` does at k = 4, m = 2 and a unit of 4096, in C and with ISA-L's kernels: files are read and written whole, one
-   after another, and one chunk file is in memory at a time. So it tells how fast this order of work can be. scripts/bench compiles
-   it where ISA-L is installed.
+/* What `ceph_ec_tool` does at k = 4, m = 2 and a unit of 4096, in C and with ISA-L's kernels: files are read whole, and written one
+   after another, piece after piece, each of which is made in a buffer that stays in the cache. So it tells how fast this order of
+   work can be. scripts/bench compiles it where ISA-L is installed.
 
        files_model encode NAME
 
-   reads NAME, whose length is that of whole stripes, makes the chunks of one position after another in one buffer, and writes each
-   of NAME.0 to NAME.5 before it makes the next.
+   reads NAME, whose length is that of whole stripes, makes the chunks of one position after another, and writes each of NAME.0 to
+   NAME.5 before it begins with the next.
 
        files_model decode NAME
 
-   reads NAME.0 to NAME.3, puts each one's units in their places before it reads the next, and writes NAME. */
+   reads NAME.0 to NAME.3, puts their units side by side, and writes NAME. */
 #include "whole_files.h"
 #include <isa-l.h>
 #include <stdlib.h>
 #include <string.h>
 #include <sys/stat.h>
 
-enum { UNIT = 4096, DATA = 4, CODING = 2, STRIPE = DATA * UNIT };
+enum { UNIT = 4096, DATA = 4, CODING = 2, STRIPE = DATA * UNIT, PIECE = 1 << 18 };
 
 static unsigned char tables[32 * DATA * CODING];
+static unsigned char piece[PIECE];
+static size_t held;
 
-/* Reads a file whole into memory that is there, or into new memory. */
-static unsigned char *read_whole(const char *name, unsigned char *into, size_t *size) {
+/* Reads a file whole. */
+static unsigned char *read_whole(const char *name, size_t *size) {
     struct stat found;
     int file = open(name, O_RDONLY);
     if (file < 0 || fstat(file, &found) != 0) return NULL;
     *size = (size_t)found.st_size;
-    if (!into) into = malloc(*size);
+    unsigned char *into = malloc(*size);
     for (size_t at = 0; into && at < *size;) {
-        ssize_t count = read(file, into + at, *size - at);
+        size_t left = *size - at;
+        ssize_t count = read(file, into + at, left < PIECE ? left : PIECE);
         if (count <= 0) return NULL;
         at += (size_t)count;
     }
@@ -36,8 +39,23 @@ static unsigned char *read_whole(const char *name, unsigned char *into, size_t *
     return into;
 }
 
-static void make_unit(int position, unsigned char *stripe, unsigned char *unit) {
-    unsigned char *from[DATA];
+/* Writes the piece that was made, where it is full or the last one. */
+static int put(int file, int last) {
+    if (held < PIECE && !last) return 0;
+    for (size_t at = 0; at < held;) {
+        ssize_t count = write(file, piece + at, held - at);
+        if (count <= 0) return 1;
+        at += (size_t)count;
+    }
+    held = 0;
+    return last ? close(file) : 0;
+}
+
+static int create(const char *name) { return open(name, O_WRONLY | O_CREAT | O_TRUNC, 0666); }
+
+static void make_unit(int position, unsigned char *stripe) {
+    unsigned char *from[DATA], *unit = piece + held;
+    held += UNIT;
     if (position < DATA) {
         memcpy(unit, stripe + position * UNIT, UNIT);
         return;
@@ -50,30 +68,38 @@ static int encode(const char *path) {
     unsigned char rows[DATA * CODING] = {1, 1, 1, 1, 1, 70, 143, 200};
     char name[4096];
     size_t size;
-    unsigned char *bytes = read_whole(path, NULL, &size), *list = bytes ? malloc(size / DATA) : NULL;
-    if (!list || size % STRIPE != 0) return fail(path);
+    unsigned char *bytes = read_whole(path, &size);
+    if (!bytes || size % STRIPE != 0) return fail(path);
     ec_init_tables(DATA, CODING, rows, tables);
     for (int p = 0; p < DATA + CODING; p++) {
-        for (size_t stripe = 0; stripe < size / STRIPE; stripe++)
-            make_unit(p, bytes + stripe * STRIPE, list + stripe * UNIT);
         snprintf(name, sizeof name, "%s.%d", path, p);
-        if (write_whole(name, list, size / DATA) != 0) return 1;
+        int file = create(name);
+        if (file < 0) return fail(name);
+        for (size_t at = 0; at < size; at += STRIPE) {
+            make_unit(p, bytes + at);
+            if (put(file, 0) != 0) return fail(name);
+        }
+        if (put(file, 1) != 0) return fail(name);
     }
     return 0;
 }
 
 static int decode(const char *path) {
     char name[4096];
-    unsigned char *list = NULL, *bytes = NULL;
+    unsigned char *lists[DATA];
     size_t size = 0;
     for (int p = 0; p < DATA; p++) {
         snprintf(name, sizeof name, "%s.%d", path, p);
-        if (!(list = read_whole(name, list, &size))) return fail(name);
-        if (!bytes && !(bytes = malloc(size * DATA))) return fail(name);
-        for (size_t at = 0; at < size; at += UNIT)
-            memcpy(bytes + at * DATA + p * UNIT, list + at, UNIT);
+        if (!(lists[p] = read_whole(name, &size))) return fail(name);
     }
-    return write_whole(path, bytes, size * DATA);
+    int file = create(path);
+    if (file < 0) return fail(path);
+    for (size_t at = 0; at < size; at += UNIT) {
+        for (int p = 0; p < DATA; p++, held += UNIT)
+            memcpy(piece + held, lists[p] + at, UNIT);
+        if (put(file, 0) != 0) return fail(path);
+    }
+    return put(file, 1) == 0 ? 0 : fail(path);
 }
 
 int main(int count, char **words) {

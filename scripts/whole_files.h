@@ -3,13 +3,13 @@
 #include <stdio.h>
 #include <unistd.h>
 
-static int fail(const char *name) {
+static inline int fail(const char *name) {
     perror(name);
     return 1;
 }
 
 /* Makes these the bytes of a file; 1 and a line on standard error where that fails. */
-static int write_whole(const char *name, const void *bytes, size_t size) {
+static inline int write_whole(const char *name, const void *bytes, size_t size) {
     const char *from = bytes;
     int file = open(name, O_WRONLY | O_CREAT | O_TRUNC, 0666);
     if (file < 0) return fail(name);
