@@ -1,7 +1,7 @@
 -- Of which intervals the eligible slots do not decide all.
 use Rattle.std.proofs.Common.{◌≡◌, ◌↔◌, ◌<◌, ◌≤◌, ◌+◌, ◌-◌, ◌^◌, ◌⊎◌, inl, inr, ℕ, Bool, List, Option, Some, None, IsTrue, bit_and, min, slice_get, refl, sym, ap, ◌∙◌, subst, arith}
-use Rattle.std.specs.Option.{unwrap_or}
-use Rattle.std.proofs.lemmas.Bool.{cases_eq}
+use Rattle.std.specs.Option.{is_some, unwrap_or}
+use Rattle.std.proofs.lemmas.Bool.{cases_eq, false≢true}
 use Rattle.std.proofs.lemmas.Nat.Bits.{bit_at_ones}
 use Rattle.ec_model.specs.Codes.{CodeRows, HasPosition, Decides}
 use Rattle.ec_model.specs.Versions.{Version}
@@ -26,6 +26,17 @@ decided_exactly code eligible epoch joined base interval result alive late h = (
   λ yes. record { each = λ other b e _. subst (λ t. DecidesAll code (bit_and t eligible)) (one_joined interval.alive joined other base b alive e) (h.0 yes) },
   λ d. h.1 (d.each joined base alive late),
 )
+
+pub decided_by : (code : CodeRows) (eligible epoch joined : ℕ) (base : Version) (interval : Interval) → interval.alive ≡ Some (joined, base)
+    → DecidesAll code (bit_and joined eligible) → IsDecided code eligible epoch interval
+decided_by code eligible epoch joined base interval alive d =
+    record { each = λ other b e _. subst (λ t. DecidesAll code (bit_and t eligible)) (one_joined interval.alive joined other base b alive e) d }
+
+pub decided_early : (code : CodeRows) (eligible epoch : ℕ) (interval : Interval) → interval.epoch < epoch → IsDecided code eligible epoch interval
+decided_early code eligible epoch interval early = record { each = λ other b e late. absurd (omega (arith, early, late)) }
+
+pub decided_unjoined : (code : CodeRows) (eligible epoch : ℕ) (interval : Interval) → interval.alive ≡ None → IsDecided code eligible epoch interval
+decided_unjoined code eligible epoch interval e = record { each = λ other b some _. absurd (false≢true (ap is_some (sym e ∙ some))) }
 
 -- ---- one interval after another
 

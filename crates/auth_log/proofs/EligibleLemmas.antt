@@ -9,9 +9,10 @@ use Rattle.std.proofs.lemmas.Nat.Bits.{bit_at_set_same, bit_at_set_other}
 use Rattle.std.proofs.lemmas.Option.{slice_get_read}
 use Rattle.std.proofs.lemmas.Grind.{common_steps}
 use Rattle.ec_model.specs.Codes.{HasPosition}
+use Rattle.ec_model.specs.Versions.{Version}
 use Rattle.ec_words.specs.Intervals.{Interval}
-use Rattle.auth_log.specs.Choice.{Info, Peers, WentAlive, IsEligible, HasAll}
-use Rattle.auth_log.specs.Inner.{IsFit, IsSaid}
+use Rattle.auth_log.specs.Choice.{Info, PeeringInput, WentAlive, IsEligible, HasAll}
+use Rattle.auth_log.specs.Inner.{IsWholeAndStarted, IsSaid}
 use Rattle.auth_log.proofs.OrderLemmas.{AreSame, said_once}
 
 -- an interval of this epoch went alive
@@ -19,8 +20,8 @@ abbrev pub is_alive_in : ℕ → Interval → Bool
 is_alive_in epoch interval = interval.epoch == epoch && is_some interval.alive
 
 -- some interval passes the test where one of this epoch went alive
-pub alive_passes : (kept : List Interval) (epoch joined : ℕ) → WentAlive kept epoch joined → list_any (is_alive_in epoch) kept ≡ true
-alive_passes kept epoch joined h = any_passes_from_place (is_alive_in epoch) kept h.place h.interval h.there passes where
+pub alive_passes : (kept : List Interval) (epoch joined : ℕ) (base : Version) → WentAlive kept epoch joined base → list_any (is_alive_in epoch) kept ≡ true
+alive_passes kept epoch joined base h = any_passes_from_place (is_alive_in epoch) kept h.place h.interval h.there passes where
   passes : is_alive_in epoch h.interval ≡ true
   passes = let some : is_some h.interval.alive ≡ true = ap is_some h.alive in grind (arith, common_steps, h.dated, some)
 
@@ -30,7 +31,7 @@ some_of None h = absurd (cc)
 some_of (Some x) h = (x, refl)
 
 -- one of this epoch went alive where some interval passes the test
-pub passes_alive : (kept : List Interval) (epoch : ℕ) → list_any (is_alive_in epoch) kept ≡ true → (joined : ℕ) × WentAlive kept epoch joined
+pub passes_alive : (kept : List Interval) (epoch : ℕ) → list_any (is_alive_in epoch) kept ≡ true → (joined : ℕ) × ((base : Version) × WentAlive kept epoch joined base)
 passes_alive kept epoch h =
     let found = Any-from_list_any (is_alive_in epoch) kept h in
     let interval = found.1 in
@@ -39,25 +40,27 @@ passes_alive kept epoch h =
     let at : interval.epoch ≡ epoch = grind (arith, common_steps) in
     let began = some_of interval.alive some in (
       began.0.0,
-      record {
-        place = found.0;
-        interval = interval;
-        base = began.0.1;
-        there = slice_get_read kept _ found.0 interval refl found.2 (sym found.3);
-        dated = at;
-        alive = began.1;
-      },
+      (
+        began.0.1,
+        record {
+          place = found.0;
+          interval = interval;
+          there = slice_get_read kept _ found.0 interval refl found.2 (sym found.3);
+          dated = at;
+          alive = began.1;
+        },
+      ),
     )
 
 -- a shard that is partial is not fit
 pub fit_exactly : (kept : List Interval) (info : Info) (result : Bool) → info.partial ≡ false → result ≡ list_any (is_alive_in info.les) kept
-    → IsTrue result ↔ IsFit kept info
+    → IsTrue result ↔ IsWholeAndStarted kept info
 fit_exactly kept info result whole found = (
-  λ yes. let alive = passes_alive kept info.les (sym found ∙ yes) in record { whole = whole; joined = alive.0; started = alive.1 },
-  λ h. found ∙ alive_passes kept info.les h.joined h.started,
+  λ yes. let alive = passes_alive kept info.les (sym found ∙ yes) in record { whole = whole; joined = alive.0; base = alive.1.0; started = alive.1.1 },
+  λ h. found ∙ alive_passes kept info.les h.joined h.base h.started,
 )
 
-pub partial_is_unfit : (kept : List Interval) (info : Info) → info.partial ≡ true → IsFit kept info → ⊥
+pub partial_is_unfit : (kept : List Interval) (info : Info) → info.partial ≡ true → IsWholeAndStarted kept info → ⊥
 partial_is_unfit kept info partial h = false≢true (sym h.whole ∙ partial)
 
 -- ---- one slot after another
@@ -91,7 +94,7 @@ slot_left among mask p none so_far q = (
 
 -- ---- the eligible slots are those of their mask
 
-pub eligible_said : (peers : Peers) (mask : ℕ) → HasAll (IsEligible peers) mask → AreSame (IsSaid peers.said mask) (IsEligible peers)
+pub eligible_said : (peers : PeeringInput) (mask : ℕ) → HasAll (IsEligible peers) mask → AreSame (IsSaid peers.said mask) (IsEligible peers)
 eligible_said peers mask all = record {
   there = λ p info h.
       let found = (all p).0 h.member in

@@ -7,7 +7,7 @@ use Rattle.std.proofs.lemmas.Bool.{cases_eq, cases_lt, false≢true}
 use Rattle.std.proofs.lemmas.Nat.Bits.{bit_at-zero, bit_at_above}
 use Rattle.ec_model.specs.Codes.{HasPosition}
 use Rattle.ec_model.specs.Versions.{Version, zero_version}
-use Rattle.auth_log.specs.Choice.{Info, Peers, Survey, IsEligible, HasAll, IsGreatestEpoch, IsSurvey}
+use Rattle.auth_log.specs.Choice.{Info, PeeringInput, Survey, IsEligible, HasAll, IsGreatestEpoch, IsSurvey}
 use Rattle.auth_log.specs.Inner.{IsSaid, IsSaidBelow, IsLeastSoFar, lesser}
 use Rattle.auth_log.proofs.OrderLemmas.{AreSame, said_once, one_more, none_more, greatest_same, greatest_more, least_so_far_same, least_more, least_is_head, least_head_same}
 use Rattle.auth_log.proofs.EligibleLemmas.{is_alive_in, alive_passes, passes_alive, slot_added, slot_left, eligible_said}
@@ -17,10 +17,10 @@ none_some info e = false≢true (ap is_some e)
 
 -- ---- whether a slot is eligible
 
-abbrev pub AnyEligible : Peers → ℕ → Type 0
+abbrev pub AnyEligible : PeeringInput → ℕ → Type 0
 AnyEligible peers p = (info : Info) × IsEligible peers p info
 
-by_info : (peers : Peers) (p : ℕ) (info : Info) → HasPosition peers.up p → peers.said p ≡ Some info
+by_info : (peers : PeeringInput) (p : ℕ) (info : Info) → HasPosition peers.up p → peers.said p ≡ Some info
     → AnyEligible peers p ⊎ (AnyEligible peers p → ⊥)
 by_info peers p info up says = go info.partial (list_any (is_alive_in info.les) peers.kept) refl refl where
   same : (e : AnyEligible peers p) → e.0 ≡ info
@@ -30,16 +30,16 @@ by_info peers p info up says = go info.partial (list_any (is_alive_in info.les) 
       → AnyEligible peers p ⊎ (AnyEligible peers p → ⊥)
   go true alive a b = inr (λ e. false≢true (sym e.1.whole ∙ ap (λ i. i.partial) (same e) ∙ a))
   go false false a b =
-      inr (λ e. false≢true (sym b ∙ sym (ap (λ i. list_any (is_alive_in i.les) peers.kept) (same e)) ∙ alive_passes peers.kept e.0.les e.1.joined e.1.started))
+      inr (λ e. false≢true (sym b ∙ sym (ap (λ i. list_any (is_alive_in i.les) peers.kept) (same e)) ∙ alive_passes peers.kept e.0.les e.1.joined e.1.base e.1.started))
   go false true a b =
       let started = passes_alive peers.kept info.les b in
-      inl (info, record { up = up; says = says; whole = a; joined = started.0; started = started.1 })
+      inl (info, record { up = up; says = says; whole = a; joined = started.0; base = started.1.0; started = started.1.1 })
 
-by_said : (peers : Peers) (p : ℕ) → HasPosition peers.up p → (o : Option Info) → peers.said p ≡ o → AnyEligible peers p ⊎ (AnyEligible peers p → ⊥)
+by_said : (peers : PeeringInput) (p : ℕ) → HasPosition peers.up p → (o : Option Info) → peers.said p ≡ o → AnyEligible peers p ⊎ (AnyEligible peers p → ⊥)
 by_said peers p up None says = inr (λ e. absurd (none_some e.0 (sym says ∙ e.1.says)))
 by_said peers p up (Some info) says = by_info peers p info up says
 
-eligible_or_not : (peers : Peers) (p : ℕ) → AnyEligible peers p ⊎ (AnyEligible peers p → ⊥)
+eligible_or_not : (peers : PeeringInput) (p : ℕ) → AnyEligible peers p ⊎ (AnyEligible peers p → ⊥)
 eligible_or_not peers p = elim (cases_eq (bit_at peers.up p) 1) [
   | inl up ↦ by_said peers p up (peers.said p) refl
   | inr down ↦ inr (λ e. down e.1.up)
@@ -47,7 +47,7 @@ eligible_or_not peers p = elim (cases_eq (bit_at peers.up p) 1) [
 
 -- ---- the mask, the epoch and the version
 
-mask_below : (peers : Peers) (n : ℕ) → n ≤ 16 → (mask : ℕ) × ((p : ℕ) → HasPosition mask p ↔ ((p < n) × AnyEligible peers p))
+mask_below : (peers : PeeringInput) (n : ℕ) → n ≤ 16 → (mask : ℕ) × ((p : ℕ) → HasPosition mask p ↔ ((p < n) × AnyEligible peers p))
 mask_below peers zero few = (0, λ p. (λ has. absurd (none p has), λ found. absurd (omega (arith, found.0)))) where
   none : (q : ℕ) → HasPosition 0 q → ⊥
   none q has = let z = bit_at-zero q in omega arith
@@ -66,7 +66,7 @@ mask_below peers (suc n) few = step (mask_below peers n (omega (arith, few))) (e
 inside : (mask p : ℕ) → mask < 2 ^ 16 → HasPosition mask p → p < 16
 inside mask p few has = elim (cases_lt p 16) [ inl lt ↦ lt | inr ge ↦ let none = bit_at_above mask 16 p few ge in absurd (omega (arith, none, has)) ]
 
-eligible_mask : (peers : Peers) → peers.up < 2 ^ 16 → (mask : ℕ) × HasAll (IsEligible peers) mask
+eligible_mask : (peers : PeeringInput) → peers.up < 2 ^ 16 → (mask : ℕ) × HasAll (IsEligible peers) mask
 eligible_mask peers few =
     let below = mask_below peers 16 (omega arith) in
     (below.0, λ p. (λ has. ((below.1 p).0 has).1, λ found. (below.1 p).1 (inside peers.up p few found.1.up, found)))
@@ -118,7 +118,7 @@ least_below said mask epoch (suc n) = step (least_below said mask epoch n) (said
         (least_so_far_same _ _ epoch so_far.0 (none_more said mask n none) so_far.1),
   )
 
-pub some_survey : (peers : Peers) → peers.up < 2 ^ 16 → (survey : Survey) × IsSurvey peers survey
+pub some_survey : (peers : PeeringInput) → peers.up < 2 ^ 16 → (survey : Survey) × IsSurvey peers survey
 some_survey peers few = (
   record { eligible = mask; epoch = epoch; version = version },
   record {

@@ -2,9 +2,10 @@
 -- "Erasure Coded pool" and "Peering".
 use Rattle.std.specs.Prelude.{◌≡◌, ◌↔◌, ◌<◌, ◌≤◌, ◌⊎◌, ℕ, Bool, true, false, List, Some, None, bit_and, slice_get, slice_index_or}
 use Rattle.std.specs.declared.option.Option.{Option}
-use Rattle.ec_model.specs.Codes.{CodeRows, HasPosition, DecidesOne, LiesBelow}
+use Rattle.ec_model.specs.Codes.{CodeRows, HasPosition, DecidesOne}
 use Rattle.ec_model.specs.Versions.{Version, is_up_to, zero_version}
 use Rattle.ec_words.specs.Intervals.{Interval}
+pub use Rattle.ec_words.specs.Intervals.{JoinedLieBelow}
 
 -- what a shard says of itself: the last epoch that it started, its newest version, and whether it is being filled
 pub record Info : Type 0 where
@@ -14,7 +15,7 @@ pub record Info : Type 0 where
 
 -- what a choice rests on beside the code: the intervals that are kept, what the shard of each slot says where it says anything,
 -- and the mask of the slots that are up
-pub record Peers : Type 0 where
+pub record PeeringInput : Type 0 where
   pub kept : List Interval
   pub said : ℕ → Option Info
   pub up : ℕ
@@ -23,23 +24,23 @@ pub record Peers : Type 0 where
 abbrev pub said_in : List (Option Info) → ℕ → Option Info
 said_in infos p = slice_index_or infos p None
 
--- some interval of a list has this epoch and went alive, with this joined set
-pub record WentAlive (intervals : List Interval) (epoch joined : ℕ) : Type 0 where
+-- some interval of a list has this epoch and went alive, with this joined set and this base
+pub record WentAlive (intervals : List Interval) (epoch joined : ℕ) (base : Version) : Type 0 where
   pub place : ℕ
   pub interval : Interval
-  pub base : Version
   pub there : slice_get intervals place ≡ Some interval
   pub dated : interval.epoch ≡ epoch
   pub alive : interval.alive ≡ Some (joined, base)
 
 -- slots with what their shards say: those that are up, whose shard is not partial and last started an interval that is kept
 -- and went alive
-pub record IsEligible (peers : Peers) (p : ℕ) (info : Info) : Type 0 where
+pub record IsEligible (peers : PeeringInput) (p : ℕ) (info : Info) : Type 0 where
   pub up : HasPosition peers.up p
   pub says : peers.said p ≡ Some info
   pub whole : info.partial ≡ false
   pub joined : ℕ
-  pub started : WentAlive peers.kept info.les joined
+  pub base : Version
+  pub started : WentAlive peers.kept info.les joined base
 
 -- a mask has the slots of a set and no others
 abbrev pub HasAll : (ℕ → Info → Type 0) → ℕ → Type 0
@@ -82,7 +83,7 @@ pub record Survey : Type 0 where
   pub version : Version
 
 -- a survey of these slots
-pub record IsSurvey (peers : Peers) (survey : Survey) : Type 0 where
+pub record IsSurvey (peers : PeeringInput) (survey : Survey) : Type 0 where
   pub eligible : HasAll (IsEligible peers) survey.eligible
   pub epoch : IsGreatestEpoch (IsEligible peers) survey.epoch
   pub version : IsLeastHead (IsEligible peers) survey.epoch survey.version
@@ -92,22 +93,23 @@ abbrev pub DecidesAll : CodeRows → ℕ → Type 0
 DecidesAll code from = (p : ℕ) → p < code.n → DecidesOne code from p
 
 -- of each kept interval that went alive, from the greatest epoch on, the eligible members of the joined set decide all
-pub record IsSufficient (code : CodeRows) (peers : Peers) : Type 0 where
+pub record IsSufficient (code : CodeRows) (peers : PeeringInput) : Type 0 where
   pub survey : Survey
   pub surveyed : IsSurvey peers survey
-  pub decided : (epoch joined : ℕ) → WentAlive peers.kept epoch joined → survey.epoch ≤ epoch
+  pub decided : (epoch joined : ℕ) (base : Version) → WentAlive peers.kept epoch joined base → survey.epoch ≤ epoch
       → DecidesAll code (bit_and joined survey.eligible)
 
 -- a kept interval of this epoch went alive, from the greatest epoch on, and the eligible members of its joined set do not
 -- decide all
-pub record IsUndecided (code : CodeRows) (peers : Peers) (survey : Survey) (epoch : ℕ) : Type 0 where
+pub record IsUndecided (code : CodeRows) (peers : PeeringInput) (survey : Survey) (epoch : ℕ) : Type 0 where
   pub joined : ℕ
-  pub alive : WentAlive peers.kept epoch joined
+  pub base : Version
+  pub alive : WentAlive peers.kept epoch joined base
   pub late : survey.epoch ≤ epoch
   pub undecided : DecidesAll code (bit_and joined survey.eligible) → ⊥
 
 -- the least such epoch, with the mask of the eligible slots
-pub record IsBlocked (code : CodeRows) (peers : Peers) (epoch up : ℕ) : Type 0 where
+pub record IsBlocked (code : CodeRows) (peers : PeeringInput) (epoch up : ℕ) : Type 0 where
   pub survey : Survey
   pub surveyed : IsSurvey peers survey
   pub slots : up ≡ survey.eligible
@@ -115,13 +117,9 @@ pub record IsBlocked (code : CodeRows) (peers : Peers) (epoch up : ℕ) : Type 0
   pub least : (other : ℕ) → IsUndecided code peers survey other → epoch ≤ other
 
 -- what is chosen where the eligible slots are sufficient: the authoritative version, and the greatest epoch that they started
-pub record IsChosen (code : CodeRows) (peers : Peers) (epoch : ℕ) (version : Version) : Type 0 where
+pub record IsChosen (code : CodeRows) (peers : PeeringInput) (epoch : ℕ) (version : Version) : Type 0 where
   pub sufficient : IsSufficient code peers
   pub survey : Survey
   pub surveyed : IsSurvey peers survey
   pub started : epoch ≡ survey.epoch
   pub headed : version ≡ survey.version
-
--- the joined sets that a choice reads lie below the code's n
-abbrev pub JoinedLieBelow : ℕ → List Interval → Type 0
-JoinedLieBelow n intervals = (epoch joined : ℕ) → WentAlive intervals epoch joined → LiesBelow n joined

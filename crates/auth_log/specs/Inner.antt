@@ -1,16 +1,18 @@
 -- What the parts of a choice say. Source: this project.
 use Rattle.std.specs.Prelude.{◌≡◌, ◌==◌, ◌<◌, ◌≤◌, if◌then◌else◌, ℕ, List, true, false, Some, None, bit_and, slice_get, min}
 use Rattle.std.specs.declared.option.Option.{Option}
-use Rattle.ec_model.specs.Codes.{CodeRows, HasPosition}
+use Rattle.ec_model.specs.Codes.{CodeRows, HasPosition, count_below}
 use Rattle.ec_model.specs.Versions.{Version, is_up_to}
 use Rattle.ec_words.specs.Intervals.{Interval}
-use Rattle.auth_log.specs.Choice.{Info, WentAlive, HasStarted, HasHead, DecidesAll}
+use Rattle.auth_log.specs.Choice.{Info, Survey, WentAlive, HasStarted, HasHead, DecidesAll}
+use Rattle.auth_log.specs.States.{State, Down, Short, Active}
 
 -- what a shard says makes its slot eligible where it is up
-pub record IsFit (kept : List Interval) (info : Info) : Type 0 where
+pub record IsWholeAndStarted (kept : List Interval) (info : Info) : Type 0 where
   pub whole : info.partial ≡ false
   pub joined : ℕ
-  pub started : WentAlive kept info.les joined
+  pub base : Version
+  pub started : WentAlive kept info.les joined base
 
 -- the slots of a mask, with what their shards say
 pub record IsSaid (said : ℕ → Option Info) (mask p : ℕ) (info : Info) : Type 0 where
@@ -62,3 +64,12 @@ IsLeastUndecided code eligible epoch intervals bound (Some at) =
 abbrev pub earlier : Option ℕ → ℕ → ℕ
 earlier None epoch = epoch
 earlier (Some at) epoch = min at epoch
+
+-- the state where the eligible slots are sufficient, by the slots that joined
+abbrev pub IsStateOfJoined : CodeRows → Survey → ℕ → ℕ → State → Type 0
+IsStateOfJoined code survey joined min (Down epoch eligible) =
+    (DecidesAll code joined → ⊥) × ((epoch ≡ survey.epoch) × (eligible ≡ survey.eligible))
+IsStateOfJoined code survey joined min (Short members least) =
+    (members ≡ joined) × (DecidesAll code joined × ((count_below joined code.n < min) × (least ≡ min)))
+IsStateOfJoined code survey joined min (Active members) =
+    (members ≡ joined) × (DecidesAll code joined × (min ≤ count_below joined code.n))

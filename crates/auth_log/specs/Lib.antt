@@ -1,4 +1,5 @@
 pub mod Choice
 pub mod Inner
 pub mod Laws
+pub mod Meanings
 pub mod States

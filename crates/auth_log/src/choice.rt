@@ -50,6 +50,3 @@ pub fn choose(
         }),
     }
 }
-
-#[cfg(test)]
-mod tests;

@@ -1,5 +1,5 @@
 //! Of which intervals the eligible slots do not decide all.
-ghost use Rattle.std.specs.Prelude.{◌≡◌, ◌↔◌, ◌≤◌, ◌-◌, ◌^◌, ℕ, IsTrue, Some, length};
+ghost use Rattle.std.specs.Prelude.{◌≡◌, ◌↔◌, ℕ, IsTrue, Some, length};
 ghost use Rattle.ec_model.specs.Codes.{LiesBelow};
 ghost use Rattle.ec_model.specs.Versions.{Version as Base};
 ghost use Rattle.auth_log.specs.Choice.{DecidesAll, JoinedLieBelow};
@@ -51,17 +51,9 @@ fn is_decided(interval: &Interval, code: &dyn Code, eligible: Mask, epoch: u32) 
 }
 
 /// Whether a set of positions decides every position.
-fn decides_all(code: &dyn Code, from: Mask) -> bool
+pub fn decides_all(code: &dyn Code, from: Mask) -> bool
     requires { LiesBelow (meaning code.now).n from.0 }
     ensures { IsTrue result ↔ DecidesAll (meaning code.now) from.0 }
 {
-    decides(code, from, all_below(code.shape().n))
-}
-
-/// All positions below `n`.
-fn all_below(n: u8) -> Mask
-    requires { n ≤ 16 }
-    ensures { result.0 ≡ 2 ^ n - 1 }
-{
-    Mask(((1u32 << n) - 1) as u16)
+    decides(code, from, Mask::all_below(code.shape().n))
 }

@@ -1,7 +1,7 @@
 //! Which slots are eligible.
 ghost use Rattle.std.specs.Prelude.{◌≡◌, ◌↔◌, ◌<◌, ◌&&◌, ◌==◌, IsTrue, IfSome, IfNone, is_some};
 ghost use Rattle.auth_log.specs.Choice.{Info as Said, IsEligible, HasAll, said_in};
-ghost use Rattle.auth_log.specs.Inner.{IsFit, IsSaid};
+ghost use Rattle.auth_log.specs.Inner.{IsWholeAndStarted, IsSaid};
 
 use crate::Info;
 use ec_words::{Interval, Mask};
@@ -42,7 +42,7 @@ pub fn said(infos: &[Option<Info>; 16], set: Mask, p: u8) -> Option<Info>
 
 /// Whether a shard is whole and last started an interval that is kept and went alive.
 fn is_fit(intervals: &[Interval], info: &Info) -> bool
-    ensures { IsTrue result ↔ IsFit intervals.now info.now }
+    ensures { IsTrue result ↔ IsWholeAndStarted intervals.now info.now }
 {
     !info.partial && intervals.iter().any(|i| is_alive_in(i, info.les))
 }

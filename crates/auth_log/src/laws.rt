@@ -1,5 +1,5 @@
 //! Laws about the definitions alone. Each is the contract of a function with an empty body.
-ghost use Rattle.auth_log.specs.Laws.{GreaterSetIsSufficient, GreaterSetChoosesNoOlderEpoch, SurveyIsThere, SurveyIsOne, BlockedIsOne, StateIsOne};
+ghost use Rattle.auth_log.specs.Laws.{GreaterSetIsSufficient, GreaterSetChoosesNoOlderEpoch, SurveyIsThere, SurveyIsOne, BlockedIsOne, StateIsOne, StateIsThere, OnlyUpSlotsCount, AliveAmongKept};
 
 /// A greater set of a sufficient set of slots is sufficient.
 pub fn greater_set_is_sufficient()
@@ -29,4 +29,19 @@ pub fn blocked_is_one()
 /// A pool has no more than one state.
 pub fn state_is_one()
     ensures { StateIsOne }
+{}
+
+/// Where each set of positions decides all or does not, a pool has a state.
+pub fn state_is_there()
+    ensures { StateIsThere }
+{}
+
+/// What the shards of slots that are not up say does not count.
+pub fn only_up_slots_count()
+    ensures { OnlyUpSlotsCount }
+{}
+
+/// Which of the intervals that are kept went alive.
+pub fn alive_among_kept()
+    ensures { AliveAmongKept }
 {}

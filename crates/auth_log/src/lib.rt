@@ -17,12 +17,15 @@ mod eligible;
 mod info;
 mod laws;
 mod order;
+mod state;
 mod survey;
 
 pub use choice::{Blocked, Choice, choose};
 pub use info::Info;
 pub use laws::{
-    blocked_is_one, greater_set_chooses_no_older_epoch, greater_set_is_sufficient, state_is_one,
-    survey_is_one, survey_is_there,
+    alive_among_kept, blocked_is_one, greater_set_chooses_no_older_epoch,
+    greater_set_is_sufficient, only_up_slots_count, state_is_one, state_is_there, survey_is_one,
+    survey_is_there,
 };
+pub use state::State;
 pub use survey::Survey;

@@ -55,7 +55,7 @@ marked (string text) layer e =
     let is = let_through (list_all is_mark text) (Some text) layer e in
     subst (λ (t : List ℕ). list_all is_mark t ≡ true) (some_same text layer is.1) is.0
 marked (array items) layer e = absurd (not_none layer (sym e))
-marked (object members) layer e = absurd (not_none layer (sym e))
+marked (object fields) layer e = absurd (not_none layer (sym e))
 
 marked_items : (items : Items) (layer : List ℕ) → layer_of_items items ≡ Some layer → list_all is_mark layer ≡ true
 marked_items no_items layer e = absurd (not_none layer (sym e))
@@ -95,7 +95,7 @@ value_good (boolean b) layers e = absurd (not_none layers (sym e))
 value_good (number n) layers e = absurd (not_none layers (sym e))
 value_good (string text) layers e = text_good text layers e
 value_good (array items) layers e = items_good items layers e
-value_good (object members) layers e = absurd (not_none layers (sym e))
+value_good (object fields) layers e = absurd (not_none layers (sym e))
 
 -- ---- a mapping that was read
 

@@ -1,5 +1,5 @@
 //! What a set of positions decides, by elimination over its rows.
-ghost use Rattle.std.specs.Prelude.{◌≡◌, ◌≢◌, ◌↔◌, ◌<◌, ℕ, slice_index, IsTrue, IsSome, IfSome};
+ghost use Rattle.std.specs.Prelude.{◌≡◌, ◌≢◌, ◌↔◌, ◌<◌, ◌≤◌, ℕ, slice_index, IsTrue, IsSome, IfSome};
 ghost use Rattle.ec_model.specs.Rows.{entry_at};
 ghost use Rattle.ec_model.specs.Codes.{IsCode, LiesBelow, HasPosition, DecidesOne, Decides, Combines};
 ghost use Rattle.ec_matrix.specs.Matrix.{HasSize};
@@ -65,11 +65,13 @@ fn set_row(rows: &mut Mat, code: &dyn Code, q: u8)
     }
 }
 
-/// The row of a position.
-fn row_of(code: &dyn Code, p: u8) -> [u8; 16]
+/// The row of a position: its `k` entries, and 0 past them.
+pub fn row_of(code: &dyn Code, p: u8) -> [u8; 16]
     requires { p < (meaning code.now).n }
-    ensures { (j : ℕ) → j < (meaning code.now).k
+    ensures inside { (j : ℕ) → j < (meaning code.now).k
         → slice_index result j ≡ entry_at (meaning code.now).rows p j }
+    ensures past { (j : ℕ) → (meaning code.now).k ≤ j → slice_index result j ≡ 0 }
+    ensures few { (meaning code.now).k ≤ 16 }
 {
     let mut row = [0u8; 16];
     for j in 0..code.shape().k {

@@ -82,23 +82,3 @@ pub fn encode_rows(rows: &[[u8; 16]; 16], k: u8, n: u8, stripe: &[u8], unit: usi
         encode_chunk(&rows[p], k, stripe, unit, &mut out[at..at + unit]);
     }
 }
-
-#[cfg(test)]
-mod tests {
-    use super::*;
-
-    // By hand: the sum of both units, and the first unit plus twice the second.
-    #[test]
-    fn each_chunk_is_the_sum_of_its_row(rt: HostRuntime) {
-        let mut rows = [[0u8; 16]; 16];
-        rows[0][0] = 1;
-        rows[1] = [1, 1, 0, 0, 0, 0, 0, 0, 0, 0, 0, 0, 0, 0, 0, 0];
-        rows[2] = [1, 2, 0, 0, 0, 0, 0, 0, 0, 0, 0, 0, 0, 0, 0, 0];
-        let mut out = [9u8; 9];
-        encode_rows(&rows, 2, 3, &[1, 2, 3, 4, 8, 0x80], 3, &mut out);
-        assert_eq!(rt;
-            out,
-            [1, 2, 3, 1 ^ 4, 2 ^ 8, 3 ^ 0x80, 1 ^ 8, 2 ^ 16, 3 ^ 0x1d]
-        );
-    }
-}

@@ -65,36 +65,3 @@ fn front(text: &[u8]) -> [u8; 16]
     }
     first
 }
-
-#[cfg(test)]
-mod tests {
-    use super::*;
-
-    // By hand.
-    #[test]
-    fn a_mapping_keeps_16_characters_and_counts_all(rt: HostRuntime) {
-        let rows: [(&[u8], u8, usize, usize); 3] = [
-            (b"DD_", 0, 3, 2),
-            (b"", 0, 0, 0),
-            (b"_DDDDDDDDDDDDDDD_DD", b'D', 19, 17),
-        ];
-        for (text, last, len, data_chunks) in rows {
-            let mapping = Mapping::of(text);
-            assert_eq!(rt; mapping.first[15], last, "of {text:?}");
-            assert_eq!(rt; mapping.len, len, "of {text:?}");
-            assert_eq!(rt; mapping.data_chunks, data_chunks, "of {text:?}");
-        }
-    }
-
-    #[test]
-    fn layers_are_added_at_the_end(rt: HostRuntime) {
-        let mut layers = Layers::new();
-        layers.add(b"Dc_");
-        layers.add(b"D_Dc");
-        assert_eq!(rt; layers.count, 2);
-        let (one, other) = (layers.each[0], layers.each[1]);
-        assert_eq!(rt; one.first[1], b'c');
-        assert_eq!(rt; other.first[3], b'c');
-        assert_eq!(rt; other.len, 4);
-    }
-}

@@ -17,7 +17,7 @@ mod profile;
 mod shape;
 
 pub use code::Code;
-pub use deciding::{combine, decides};
+pub use deciding::{combine, decides, row_of};
 pub use encode::{encode_chunk, encode_rows};
 pub use fault::{Key, ProfileFault};
 pub use mapping::{Layer, Layers, Mapping};

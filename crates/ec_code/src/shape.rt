@@ -17,17 +17,3 @@ pub fn default_min(shape: Shape) -> u8
 {
     shape.k + u8::min(1, shape.n - shape.k - 1)
 }
-
-#[cfg(test)]
-mod tests {
-    use super::*;
-
-    // By hand: one more than k, or k where there is one coding chunk.
-    #[test]
-    fn the_least_number_is_k_or_one_more(rt: HostRuntime) {
-        for (k, n, least) in [(2u8, 3u8, 2), (4, 6, 5), (8, 12, 9)] {
-            assert!(rt; k < n);
-            assert_eq!(rt; default_min(Shape { k, n, lead: k }), least, "at {k} {n}");
-        }
-    }
-}

@@ -8,7 +8,7 @@ use crate::lines::combined;
 use std::marker::Model;
 
 /// Up to 16 rows of up to 16 bytes. It takes no memory.
-#[derive(Clone, Copy, Debug)]
+#[derive(Clone, Copy)]
 pub struct Mat {
     height: u8,
     width: u8,
@@ -106,43 +106,5 @@ impl Mat {
         ensures whole { IsMatrix self.now }
     {
         &self.rows
-    }
-}
-
-#[cfg(test)]
-mod tests {
-    use super::*;
-    use std::test::Fail;
-
-    fn two_by_two(a: u8, b: u8, c: u8, d: u8) -> Mat
-        ensures { HasSize result 2 2 }
-    {
-        let mut m = Mat::zero(2, 2);
-        m.set(0, 0, a);
-        m.set(0, 1, b);
-        m.set(1, 0, c);
-        m.set(1, 1, d);
-        m
-    }
-
-    #[test]
-    fn a_set_entry_stays_at_its_place(rt: HostRuntime) -> Result<(), Fail> {
-        let mut m = two_by_two(1, 2, 3, 4);
-        m.set(1, 0, 9);
-        for (r, c, v) in [(0, 0, 1), (0, 1, 2), (1, 0, 9), (1, 1, 4)] {
-            assert!(rt; r < m.rows() && c < m.cols());
-            assert_eq!(rt; m.get(r, c), v, "at {r} {c}");
-        }
-        Ok(())
-    }
-
-    #[test]
-    fn a_product_by_hand(rt: HostRuntime) -> Result<(), Fail> {
-        let m = two_by_two(1, 2, 0x80, 3).product(&two_by_two(2, 1, 4, 0));
-        for (r, c, v) in [(0, 0, 10), (0, 1, 1), (1, 0, 0x1d ^ 12), (1, 1, 0x80)] {
-            assert!(rt; r < m.rows() && c < m.cols());
-            assert_eq!(rt; m.get(r, c), v, "at {r} {c}");
-        }
-        Ok(())
     }
 }

@@ -1,7 +1,8 @@
 -- Laws about the definitions of this crate. Source: this project.
-use Rattle.std.specs.Prelude.{◌≡◌, ◌≤◌, ℕ, List, [], ◌∷◌, length, Some}
+use Rattle.std.specs.Prelude.{◌≡◌, ◌↔◌, ◌<◌, ◌≤◌, ℕ, List, [], ◌∷◌, length, Some}
 use Rattle.ec_model.specs.Objects.{Objects, Command, Refusal, refusal_of, apply_command, reply_to, reply_of_refusal}
-use Rattle.ec_model.specs.Codes.{CodeRows, IsPositionList}
+use Rattle.ec_model.specs.Alike.{AreAlike}
+use Rattle.ec_model.specs.Codes.{CodeRows, IsPositionList, DecidesOne}
 use Rattle.ec_model.specs.Stripes.{data_lists, joined}
 
 -- k data positions give the object back
@@ -23,3 +24,12 @@ pub record ThreeBytesInThreeLists : Type 0 where
 abbrev pub RefusalChangesNothing : Type 0
 RefusalChangesNothing = (objects : Objects) (command : Command) (refusal : Refusal)
     → refusal_of objects command ≡ Some refusal → (apply_command objects command ≡ objects) × (reply_to objects command ≡ reply_of_refusal refusal)
+
+-- codes that are alike have the same list at each position of an object
+abbrev pub AlikeCodesHaveTheSameLists : Type 0
+AlikeCodesHaveTheSameLists = (one other : CodeRows) (unit : ℕ) (bytes : List ℕ) (p : ℕ) (list : List ℕ) → AreAlike one other → p < one.n
+    → IsPositionList one unit bytes p list ↔ IsPositionList other unit bytes p list
+
+-- and each set of positions decides the same in both
+abbrev pub AlikeCodesDecideTheSame : Type 0
+AlikeCodesDecideTheSame = (one other : CodeRows) (from p : ℕ) → AreAlike one other → p < one.n → DecidesOne one from p ↔ DecidesOne other from p

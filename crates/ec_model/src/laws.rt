@@ -1,5 +1,6 @@
 //! Laws about the definitions alone. Each is the contract of a function with an empty body.
 ghost use Rattle.ec_model.specs.Laws.{DataListsJoinBack, ThreeBytesInThreeLists, RefusalChangesNothing};
+ghost use Rattle.ec_model.specs.Laws.{AlikeCodesHaveTheSameLists, AlikeCodesDecideTheSame};
 
 /// The data chunks, joined stripe by stripe and cut to the size, are the bytes.
 pub fn data_lists_join_back()
@@ -14,4 +15,14 @@ pub fn three_bytes_in_three_lists()
 /// A command whose reply is no `ok` leaves the objects as they were.
 pub fn refusal_changes_nothing()
     ensures { RefusalChangesNothing }
+{}
+
+/// Codes that are alike have the same list at each position of an object.
+pub fn alike_codes_have_the_same_lists()
+    ensures { AlikeCodesHaveTheSameLists }
+{}
+
+/// Each set of positions decides the same in codes that are alike.
+pub fn alike_codes_decide_the_same()
+    ensures { AlikeCodesDecideTheSame }
 {}

@@ -8,4 +8,7 @@
 
 mod laws;
 
-pub use laws::{data_lists_join_back, refusal_changes_nothing, three_bytes_in_three_lists};
+pub use laws::{
+    alike_codes_decide_the_same, alike_codes_have_the_same_lists, data_lists_join_back,
+    refusal_changes_nothing, three_bytes_in_three_lists,
+};

@@ -1,7 +1,6 @@
 -- The chunks of a position, written piece after piece: those of some whole stripes, and then those of what stands behind them.
 use Rattle.std.proofs.Common.{◌≡◌, ◌<◌, ◌≤◌, ◌+◌, ◌-◌, ◌*◌, ◌/◌, ◌%◌, ◌==◌, ◌++◌, ℕ, List, [], Bool, true, false, Option, Some, None, Result, Ok, Err, length, min, max, take, drop, replicate, slice_index, refl, ap, sym, subst, ◌∙◌, arith, inl, inr, length-append, length-take, append_assoc, append-nil, add-mul, zero-mul, take-add, length-drop, mul-div_cancel}
 use Rattle.std.proofs.lemmas.Bool.{cases_lt}
-use Rattle.std.proofs.lemmas.Bool.Decides.{nat_tests}
 use Rattle.std.proofs.lemmas.List.{get_or_append_left, get_or-append_right, length-take-le, get_or-take, get_or-drop, length-replicate, take_all}
 use Rattle.std.specs.Int.{div_ceil}
 use Rattle.std.proofs.lemmas.Grind.{div_ceil_times}
@@ -17,7 +16,7 @@ use Rattle.ec_code.specs.Encoding.{IsChunk}
 use Rattle.ec_tool.specs.Accesses.{Told, HasFile, Puts}
 use Rattle.ec_tool.specs.Files.{FileMap, KeepsOthers}
 use Rattle.ec_tool.specs.Pieces.{AreRowChunks, IsRowOf, HasChunksOf, WritesPieces}
-use Rattle.ec_tool.proofs.PieceLemmas.{next_piece, stopped_piece}
+use Rattle.ec_tool.proofs.PieceLemmas.{is_first, is_later, next_piece, stopped_piece}
 
 -- ---- what stands behind whole stripes
 
@@ -213,12 +212,6 @@ no_part code unit file bytes p size files some = record {
   none = λ _. (refl, refl);
   some = λ more. absurd (omega arith);
 }
-
-is_first : (i : ℕ) → (i == 0) ≡ true → i ≡ 0
-is_first i t = grind (arith, nat_tests)
-
-is_later : (i : ℕ) → (i == 0) ≡ false → 1 ≤ i
-is_later i f = grind (arith, nat_tests)
 
 pub next_part : {T E : Type 0} → (code : CodeRows) (unit : ℕ) (file bytes : List ℕ) (p each size i : ℕ) (piece : List ℕ) (before mid now : Option FileMap) (result : Result T E)
     → 0 < code.k * unit → size ≡ each * (code.k * unit) → i * size ≤ length bytes → HasPart code unit file bytes p size i before mid

@@ -12,16 +12,16 @@ use Rattle.stripe_map.specs.Decoding.{HasLength}
 use Rattle.ec_tool.specs.Accesses.{Told, HasFile}
 use Rattle.ec_tool.specs.Chunks.{AreBelow, DecideTheData, IsReadPlan, AreReadable, HaveLength, IsReadable, IsDecoded, chunk_name, NeedsEach}
 use Rattle.ec_tool.specs.Decoding.{IsAmong, HaveChunks, AreFetched, Fetches, StopsReading, AreWhole, IsFileOfChunks, GivesFile}
-use Rattle.ec_tool.specs.Files.{FileMap, max_file}
+use Rattle.ec_tool.specs.Files.{FileMap, KeepsOthers, max_file}
 use Rattle.ec_tool.specs.Joining.{WritesMadeOrStops}
-use Rattle.ec_tool.specs.Outcomes.{DecodePart, DecodeEnds}
-use Rattle.ec_tool.specs.Runs.{Decodes, DecodeAnswers, DecodesFiles, WhereTold}
+use Rattle.ec_tool.specs.Outcomes.{DecodeEnds, DecodeUnread, DecodeUnwritten}
+use Rattle.ec_tool.specs.Runs.{CanDecode, Decodes, DecodeAnswers, DecodesFiles, WhereTold}
 use Rattle.ec_tool.specs.Stops.{status_of, line_of, status_after, line_after}
-use Rattle.ec_tool.specs.Texts.{not_decided_line, missing_line, too_long_line, lengths_line}
+use Rattle.ec_tool.specs.Texts.{failed_line, not_decided_line, missing_line, too_long_line, lengths_line}
 use Rattle.ec_tool.specs.Words.{Job}
 use Rattle.ec_tool.specs.declared.stop.Stop.{Stop}
 use Rattle.ec_tool.specs.declared.stop.Stop.TheVariants.{Usage, Profile, Missing, Failed, NotDecided, Lengths, TooLong, NoMemory}
-use Rattle.ec_tool.proofs.EncodeLemmas.{same_some, told_both}
+use Rattle.ec_tool.proofs.EncodeLemmas.{same_some}
 use Rattle.ec_tool.proofs.FetchLemmas.{readable}
 
 pub decode_out : (code : CodeRows) (job : Job) (before : Option FileMap) (was : ℕ) → DecodeEnds code job 13 [] before before was was
@@ -71,9 +71,6 @@ by_files code job before now status line below decide not_2 not_6 answers files 
   answers = λ _ _. answers;
   files = λ _ _. files;
 }
-
-nothing_changed : (job : Job) (before : Option FileMap) → DecodePart job before before
-nothing_changed job before old new told known other ne = ap (λ files. map.get files other) (same_some new old (sym known ∙ told))
 
 no_bytes : (o : Option (List ℕ)) (bytes : List ℕ) → o ≡ Some bytes → o ≡ None → ⊥
 no_bytes o bytes some none = cc
@@ -155,7 +152,8 @@ decode_unread code job None was is (Missing shown) below decide (i, lt, at) fail
     inl (by_files code job None None 4 _ below decide (λ e. omega arith) (λ e. omega arith) (missing_chunks job _ i lt at) tt, quiet (λ e. omega arith))
 decode_unread code job None was is (TooLong shown) below decide (i, lt, at) failed quiet =
     inl (by_files code job None None 8 _ below decide (λ e. omega arith) (λ e. omega arith) (long_chunks job _ i lt at) tt, quiet (λ e. omega arith))
-decode_unread code job None was is (Failed shown) below decide (i, lt, at) failed quiet = inr (inl ((_, inr (i, (lt, at)), refl, refl, failed refl), nothing_changed job None))
+decode_unread code job None was is (Failed shown) below decide (i, lt, at) failed quiet =
+    inr (inl (below, decide, inl (i, lt, (refl, ap failed_line at, failed refl), tt, refl)))
 decode_unread code job None was is NoMemory below decide stops failed quiet = inr (inr ((refl, refl), quiet (λ e. omega arith), refl))
 decode_unread code job None was is Usage below decide (i, lt, at) failed quiet = absurd at
 decode_unread code job None was is (Profile f) below decide (i, lt, at) failed quiet = absurd at
@@ -166,7 +164,7 @@ decode_unread code job (Some files) was is (Missing shown) below decide (i, lt, 
 decode_unread code job (Some files) was is (TooLong shown) below decide (i, lt, at) failed quiet =
     inl (by_files code job (Some files) (Some files) 8 _ below decide (λ e. omega arith) (λ e. omega arith) (long_chunks job _ i lt at.0) (long_files code job files i _ lt at.0 at.1 at.2), quiet (λ e. omega arith))
 decode_unread code job (Some files) was is (Failed shown) below decide (i, lt, at) failed quiet =
-    inr (inl ((_, inr (i, (lt, at)), refl, refl, failed refl), nothing_changed job (Some files)))
+    inr (inl (below, decide, inl (i, lt, (refl, ap failed_line at.0, failed refl), at.1, refl)))
 decode_unread code job (Some files) was is NoMemory below decide stops failed quiet = inr (inr ((refl, refl), quiet (λ e. omega arith), refl))
 decode_unread code job (Some files) was is Usage below decide (i, lt, at) failed quiet = absurd at
 decode_unread code job (Some files) was is (Profile f) below decide (i, lt, at) failed quiet = absurd at
@@ -311,27 +309,46 @@ decode_done code job before now was is chunks long set found below decide has pl
         all_read code job old chunks long 0 [] (Some new) told (λ never. absurd (never gives.0)) (λ _ much. absurd (omega (arith, much, gives.1)))
         (λ _ _. (refl, refl, (set, found, plan, is_decoded code job old chunks long set found told listed needs gives.2, ap (λ files. Some files) w)))
 
+-- the file could not be written
+told_unwritten : (code : CodeRows) (job : Job) (before now : Option FileMap) (chunks : List (Option (List ℕ))) (long : ℕ) → WhereTold before (λ files. HasFetched files job chunks long)
+    → AreWhole job.unit long chunks → code.k * long ≤ max_file → Told before now (λ old new. KeepsOthers old new job.name)
+    → Told before now (λ old new. CanDecode code job old × KeepsOthers old new job.name)
+told_unwritten code job None None chunks long has whole few told = tt
+told_unwritten code job None (Some new) chunks long has whole few told = absurd told
+told_unwritten code job (Some old) None chunks long has whole few told = absurd told
+told_unwritten code job (Some old) (Some new) chunks long has whole few told = (
+  record {
+    long = long;
+    readable = readable old job.name job.wanted chunks has.fetched;
+    whole = whole.0;
+    lengths = have_length old job.name job.wanted job.unit long chunks has.fetched whole;
+    short = few;
+  },
+  told,
+)
+
 -- what is written where the chunks make a file, or how far that came
 pub decode_written : {T : Type 0} → (code : CodeRows) (job : Job) (before now : Option FileMap) (was is : ℕ) (rows : List (List ℕ)) (chunks : List (Option (List ℕ))) (long set n count : ℕ)
     (result : Result T Stop)
     → AreBelow code.n job.wanted → DecideTheData code job.wanted → WhereTold before (λ files. HasFetched files job chunks long) → IsReadPlan code job.wanted set
     → NeedsEach code set → ((p : ℕ) → HasPosition set p → IsAmong job.wanted p)
-    → ((found : List ℕ) → IsMade code.k job.unit n rows chunks count found → GivesFile code job.unit job.name long set chunks (Ok found))
+    → AreWhole job.unit long chunks → code.k * long ≤ max_file
+    → ((found : List ℕ) → IsMade code.k job.unit n rows chunks count found → IsFileOfChunks code job.unit long set chunks found)
     → WritesMadeOrStops code.k job.unit n rows chunks count before now job.name result
     → (status_after result ≡ 5 → Rose was is) → (status_after result ≢ 5 → is ≡ was)
     → DecodeEnds code job (status_after result) (line_after result) before now was is
-decode_written {T} code job before now was is rows chunks long set n count (Ok done) below decide has plan needs listed gives w failed quiet =
-    decode_done code job before now was is chunks long set w.0 below decide has plan needs listed (gives w.0 w.1) w.2 (quiet (λ e. omega arith))
-decode_written {T} code job before now was is rows chunks long set n count (Err (Failed shown)) below decide has plan needs listed gives w failed quiet =
-    inr (inl ((_, inl w.0, refl, refl, failed refl), λ old new b n. told_both before now old new _ b n w.1))
-decode_written {T} code job before now was is rows chunks long set n count (Err NoMemory) below decide has plan needs listed gives w failed quiet =
+decode_written {T} code job before now was is rows chunks long set n count (Ok done) below decide has plan needs listed whole few gives w failed quiet =
+    decode_done code job before now was is chunks long set w.0 below decide has plan needs listed (whole, few, gives w.0 w.1) w.2 (quiet (λ e. omega arith))
+decode_written {T} code job before now was is rows chunks long set n count (Err (Failed shown)) below decide has plan needs listed whole few gives w failed quiet =
+    inr (inl (below, decide, inr ((refl, ap failed_line w.0, failed refl), told_unwritten code job before now chunks long has whole few w.1)))
+decode_written {T} code job before now was is rows chunks long set n count (Err NoMemory) below decide has plan needs listed whole few gives w failed quiet =
     inr (inr ((refl, refl), quiet (λ e. omega arith), w))
-decode_written {T} code job before now was is rows chunks long set n count (Err Usage) below decide has plan needs listed gives w failed quiet = absurd w
-decode_written {T} code job before now was is rows chunks long set n count (Err (Profile x)) below decide has plan needs listed gives w failed quiet = absurd w
-decode_written {T} code job before now was is rows chunks long set n count (Err (Missing x)) below decide has plan needs listed gives w failed quiet = absurd w
-decode_written {T} code job before now was is rows chunks long set n count (Err NotDecided) below decide has plan needs listed gives w failed quiet = absurd w
-decode_written {T} code job before now was is rows chunks long set n count (Err Lengths) below decide has plan needs listed gives w failed quiet = absurd w
-decode_written {T} code job before now was is rows chunks long set n count (Err (TooLong x)) below decide has plan needs listed gives w failed quiet = absurd w
+decode_written {T} code job before now was is rows chunks long set n count (Err Usage) below decide has plan needs listed whole few gives w failed quiet = absurd w
+decode_written {T} code job before now was is rows chunks long set n count (Err (Profile x)) below decide has plan needs listed whole few gives w failed quiet = absurd w
+decode_written {T} code job before now was is rows chunks long set n count (Err (Missing x)) below decide has plan needs listed whole few gives w failed quiet = absurd w
+decode_written {T} code job before now was is rows chunks long set n count (Err NotDecided) below decide has plan needs listed whole few gives w failed quiet = absurd w
+decode_written {T} code job before now was is rows chunks long set n count (Err Lengths) below decide has plan needs listed whole few gives w failed quiet = absurd w
+decode_written {T} code job before now was is rows chunks long set n count (Err (TooLong x)) below decide has plan needs listed whole few gives w failed quiet = absurd w
 
 -- what is answered with a reason to stop comes to it
 pub by_reason : {T : Type 0} → (code : CodeRows) (job : Job) (before now : Option FileMap) (was is : ℕ) (result : Result T Stop) (stop : Stop)
@@ -339,3 +356,9 @@ pub by_reason : {T : Type 0} → (code : CodeRows) (job : Job) (before now : Opt
     → DecodeEnds code job (status_after result) (line_after result) before now was is
 by_reason {T} code job before now was is (Ok done) stop e ends = absurd e
 by_reason {T} code job before now was is (Err s) stop e ends = subst (λ (x : Stop). DecodeEnds code job (status_of x) (line_of x) before now was is) (sym e) ends
+
+-- a failed call has the status 5
+pub decode_fails_5 : (code : CodeRows) (job : Job) (status : ℕ) (line : List ℕ) (before now : Option FileMap) (was is : ℕ)
+    → DecodeUnread job status line before now was is ⊎ DecodeUnwritten code job status line before now was is → status ≡ 5
+decode_fails_5 code job status line before now was is (inl (i, lt, fails, told, kept)) = fails.0
+decode_fails_5 code job status line before now was is (inr (fails, told)) = fails.0

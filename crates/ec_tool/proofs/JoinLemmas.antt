@@ -3,7 +3,6 @@ use Rattle.std.proofs.Common.{◌≡◌, ◌==◌, ◌<◌, ◌≤◌, ◌*◌, 
 use Rattle.std.specs.Int.Bits.{xor_zero_r}
 use Rattle.std.proofs.Math.Nat.{mod-lt}
 use Rattle.std.proofs.lemmas.Bool.{cases_lt}
-use Rattle.std.proofs.lemmas.Bool.Decides.{nat_tests}
 use Rattle.std.proofs.lemmas.Grind.{div_ceil_times}
 use Rattle.std.proofs.lemmas.List.{get_or_append_left, get_or-append_right, get_or-take, get_or-drop, length-append}
 use Rattle.std.proofs.lemmas.Nat.{div-add-mod', div-mul-add, mod-mul-add, mul-add-lt, mul-le}
@@ -18,11 +17,11 @@ use Rattle.stripe_map.proofs.AssemblyLemmas.{made_is_object, unit_inside}
 use Rattle.ec_tool.specs.Accesses.{HasFile, Told}
 use Rattle.ec_tool.specs.Decoding.{IsAmong, HaveChunks, AreWhole, IsFileOfChunks, GivesFile}
 use Rattle.ec_tool.specs.Files.{FileMap}
-use Rattle.ec_tool.specs.Joining.{ChecksLengths, AreStripes, AddsStripes, PutsStripes, WritesMade}
+use Rattle.ec_tool.specs.Joining.{ChecksLengths, AreMadeStripes, AddsStripes, PutsStripes, WritesMade}
 use Rattle.ec_tool.specs.declared.stop.Stop.{Stop}
 use Rattle.ec_tool.specs.declared.stop.Stop.TheVariants.{Usage, Profile, Missing, Failed, NotDecided, Lengths, TooLong, NoMemory}
 use Rattle.ec_tool.proofs.OwnChunkLemmas.{made_bytes, made_has_chunks}
-use Rattle.ec_tool.proofs.PieceLemmas.{next_piece, stopped_piece}
+use Rattle.ec_tool.proofs.PieceLemmas.{is_first, is_later, next_piece, stopped_piece}
 
 -- the bytes of whole units in each of k chunks
 bytes_of_units : (k unit long : ℕ) → long % unit ≡ 0 → long / unit * k * unit ≡ long * k
@@ -74,7 +73,7 @@ piece_room per here k unit less = mul-le (here * k) unit (per * k) unit (mul-le 
 
 -- zeros are what no positions make
 pub zeros_are_stripes : (k unit : ℕ) (rows : List (List ℕ)) (chunks : List (Option (List ℕ))) (from count : ℕ) (piece : List ℕ) → length piece ≡ count * k * unit
-    → ((i : ℕ) → i < length piece → slice_index piece i ≡ 0) → AreStripes k unit 0 rows chunks from count piece
+    → ((i : ℕ) → i < length piece → slice_index piece i ≡ 0) → AreMadeStripes k unit 0 rows chunks from count piece
 unfolding sum_below
 zeros_are_stripes k unit rows chunks from count piece long zeros = record {
   long = long;
@@ -108,7 +107,7 @@ next_sum q f old new step so_far = rw (add-one q) (step ∙ ap (λ t. bit_xor t 
 -- one position more
 pub stripes_of_one_more : (k unit q : ℕ) (rows : List (List ℕ)) (chunks : List (Option (List ℕ))) (chunk : Option (List ℕ)) (from count : ℕ) (old new : List ℕ)
     → chunk ≡ chunk_of_position chunks q → length new ≡ length old → AddsStripes k unit rows q chunk from count old new
-    → AreStripes k unit q rows chunks from count old → AreStripes k unit (q + 1) rows chunks from count new
+    → AreMadeStripes k unit q rows chunks from count old → AreMadeStripes k unit (q + 1) rows chunks from count new
 stripes_of_one_more k unit q rows chunks chunk from count old new is same adds made = record {
   long = same ∙ made.long;
   bytes = λ v b lv lb.
@@ -140,7 +139,7 @@ times_sum a c k = grind arith
 
 -- stripes behind those before them
 stripes_follow : (k unit n a c : ℕ) (rows : List (List ℕ)) (chunks : List (Option (List ℕ))) (part piece : List ℕ) → 1 ≤ k → IsMade k unit n rows chunks a part
-    → AreStripes k unit n rows chunks a c piece → IsMade k unit n rows chunks (a + c) (part ++ piece)
+    → AreMadeStripes k unit n rows chunks a c piece → IsMade k unit n rows chunks (a + c) (part ++ piece)
 stripes_follow k unit n a c rows chunks part piece some made stripes = record {
   long = length-append part piece ∙ ap (λ l. l + length piece) made.long ∙ ap (λ l. a * k * unit + l) stripes.long ∙ sym (sum_times a c k unit);
   bytes = λ v b lv lb. elim (cases_lt v (a * k)) [
@@ -183,12 +182,6 @@ nothing_written k unit n rows chunks per count before name = record {
   none = λ _. (refl, refl);
   some = λ one. absurd (omega arith);
 }
-
-is_first : (j : ℕ) → (j == 0) ≡ true → j ≡ 0
-is_first j t = grind (arith, nat_tests)
-
-is_later : (j : ℕ) → (j == 0) ≡ false → 1 ≤ j
-is_later j f = grind (arith, nat_tests)
 
 next_times : (i per : ℕ) → (i + 1) * per ≡ i * per + per
 next_times i per = grind arith

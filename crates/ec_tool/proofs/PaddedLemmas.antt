@@ -6,12 +6,12 @@ use Rattle.ec_tool.specs.Accesses.{Told}
 use Rattle.ec_tool.specs.Chunks.{chunk_name, Written, AreChunkFiles}
 use Rattle.ec_tool.specs.Encoding.{HasChunks, HasChunksBut, WritesChunks, StopsChunks}
 use Rattle.ec_tool.specs.Files.{FileMap}
-use Rattle.ec_tool.specs.Pieces.{AreStripes}
+use Rattle.ec_tool.specs.Pieces.{AreWholeStripes}
 use Rattle.ec_tool.specs.declared.stop.Stop.{Stop}
 use Rattle.ec_tool.specs.declared.stop.Stop.TheVariants.{Usage, Profile, Missing, Failed, NotDecided, Lengths, TooLong, NoMemory}
 use Rattle.ec_tool.proofs.ChunkPieceLemmas.{padded_long, list_of_padded}
 
-pub whole_stripes : (k unit : ℕ) (bytes whole : List ℕ) → 1 ≤ k * unit → whole ≡ padded k unit bytes → AreStripes k unit whole
+pub whole_stripes : (k unit : ℕ) (bytes whole : List ℕ) → 1 ≤ k * unit → whole ≡ padded k unit bytes → AreWholeStripes k unit whole
 whole_stripes k unit bytes whole some is = record { count = stripe_count k unit (length bytes); long = ap length is ∙ padded_long k unit bytes some }
 
 files_of_padded : (code : CodeRows) (unit : ℕ) (name bytes wanted : List ℕ) (written : List Written) → 0 < code.k * unit → AreChunkFiles code unit name (padded code.k unit bytes) wanted written

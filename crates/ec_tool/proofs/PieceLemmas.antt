@@ -1,12 +1,14 @@
 -- Files that are written piece after piece.
-use Rattle.std.proofs.Common.{◌≡◌, ℕ, List, [], ◌++◌, Bool, true, false, Option, Some, None, Result, Ok, Err, cond, refl, ap, sym, subst, ◌∙◌}
+use Rattle.std.proofs.Common.{◌≡◌, ◌==◌, ◌≤◌, ℕ, List, [], ◌++◌, Bool, true, false, Option, Some, None, Result, Ok, Err, cond, refl, ap, sym, subst, ◌∙◌, arith}
+use Rattle.std.proofs.lemmas.Bool.Decides.{nat_tests}
 use Rattle.std.specs.Ordering.{nat_cmp, is_eq}
 use Rattle.std.specs.Cmp.Lexicographic.{slice_cmp, nat_list_cmp_total}
 use Rattle.std.specs.FinMap as map
 use Rattle.std.specs.Result.{IsOk, IsErr}
 use Rattle.std.specs.declared.cmp.Ordering.{Ordering}
+use Rattle.stripe_map.specs.Decoding.{bytes_of}
 use Rattle.ec_tool.specs.Accesses.{Told, HasFile, Puts}
-use Rattle.ec_tool.specs.Files.{FileMap, KeepsOthers, content}
+use Rattle.ec_tool.specs.Files.{FileMap, KeepsOthers}
 use Rattle.ec_tool.proofs.FileLemmas.{written, others_stay}
 
 -- of two writes of a file the later one stands
@@ -27,9 +29,9 @@ twice old name first later = map.same_map nat_list_cmp_total (map.slice_cmp-IsAn
       ∙ sym (map.get-insert nat_list_cmp_total old name later q)
 
 grown_file : (old : FileMap) (name part piece : List ℕ)
-    → map.insert (map.insert old name part) name (content (map.get (map.insert old name part) name) ++ piece) ≡ map.insert old name (part ++ piece)
+    → map.insert (map.insert old name part) name (bytes_of (map.get (map.insert old name part) name) ++ piece) ≡ map.insert old name (part ++ piece)
 grown_file old name part piece =
-    ap (λ (o : Option (List ℕ)). map.insert (map.insert old name part) name (content o ++ piece)) (written old name part) ∙ twice old name part (part ++ piece)
+    ap (λ (o : Option (List ℕ)). map.insert (map.insert old name part) name (bytes_of o ++ piece)) (written old name part) ∙ twice old name part (part ++ piece)
 
 -- the first piece is the file
 pub begun : {T E : Type 0} → (before now : Option FileMap) (name piece : List ℕ) (result : Result T E) → IsOk result → Puts before now name true piece result
@@ -49,7 +51,7 @@ grown {T} {E} (Some old) None now name part piece (Ok done) ok so_far is = absur
 grown {T} {E} (Some old) (Some mid) None name part piece (Ok done) ok so_far is = absurd is
 grown {T} {E} (Some old) (Some mid) (Some new) name part piece (Ok done) ok so_far is =
     is
-    ∙ ap (λ (files : FileMap). map.insert files name (content (map.get files name) ++ piece)) so_far
+    ∙ ap (λ (files : FileMap). map.insert files name (bytes_of (map.get files name) ++ piece)) so_far
     ∙ grown_file old name part piece
 
 pub part_keeps : (before now : Option FileMap) (name part : List ℕ) → Told before now (HasFile name part) → Told before now (λ old new. KeepsOthers old new name)
@@ -91,3 +93,11 @@ pub stopped_piece : {T E : Type 0} → (before mid now : Option FileMap) (name p
 stopped_piece {T} {E} before mid now name part piece true result err none some is =
     subst (λ (b : Option FileMap). Told b now (λ old new. KeepsOthers old new name)) (none refl) (begun_in_part mid now name piece result err is)
 stopped_piece {T} {E} before mid now name part piece false result err none some is = grown_in_part before mid now name part piece result err (some refl) is
+
+-- ---- which piece
+
+pub is_first : (i : ℕ) → (i == 0) ≡ true → i ≡ 0
+is_first i t = grind (arith, nat_tests)
+
+pub is_later : (i : ℕ) → (i == 0) ≡ false → 1 ≤ i
+is_later i f = grind (arith, nat_tests)

@@ -4,8 +4,8 @@ use Rattle.std.specs.Result.{IsErrAnd}
 use Rattle.ec_model.specs.Codes.{CodeRows}
 use Rattle.ec_code.specs.declared.fault.ProfileFault.{ProfileFault}
 use Rattle.plugin_reg.specs.Opening.{IsRefused}
-use Rattle.plugin_reg.specs.declared.reading.RegFault.{RegFault}
-use Rattle.plugin_reg.specs.declared.reading.RegFault.TheVariants as reg
+use Rattle.profile_texts.specs.declared.reading.RegFault.{RegFault}
+use Rattle.profile_texts.specs.declared.reading.RegFault.TheVariants as reg
 use Rattle.ec_tool.specs.Outcomes.{Shows}
 use Rattle.ec_tool.specs.Stops.{status_of, line_of, status_after, shown_after, stop_of_registry, StopsByJob}
 use Rattle.ec_tool.specs.Words.{Job}

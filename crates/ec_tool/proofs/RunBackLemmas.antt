@@ -21,7 +21,9 @@ use Rattle.ec_tool.specs.Runs.{Encodes, Decodes}
 use Rattle.ec_tool.specs.Words.{Job}
 use Rattle.ec_tool.specs.declared.request.Request.TheVariants.{Decode}
 use Rattle.ec_tool.proofs.BackLemmas.{come_back}
+use Rattle.ec_tool.proofs.DecodeLemmas.{decode_fails_5}
 use Rattle.ec_tool.proofs.DoneLemmas.{some_wanted}
+use Rattle.ec_tool.proofs.EncodeLemmas.{encode_fails_5}
 use Rattle.ec_tool.proofs.SameCodeLemmas.{codes_one}
 use Rattle.ec_tool.proofs.SameDecodeLemmas.{decided_or_not}
 use Rattle.ec_tool.proofs.SameEncodeLemmas.{list_as, below_or_not}
@@ -56,7 +58,8 @@ wrote : (job : Job) (bytes : List ℕ) (files : FileMap) (status : ℕ) (line : 
 wrote job bytes files status line now was is there well (inl out) = absurd (omega (arith, well, out.0.0))
 wrote job bytes files status line now was is there well (inr (inl refused)) = absurd (omega (arith, well, refused.2))
 wrote job bytes files status line now was is there well (inr (inr (p, code, given, of, is_code, inl ends))) = by_code p code job bytes files status line now given of there well ends.0
-wrote job bytes files status line now was is there well (inr (inr (p, code, given, of, is_code, inr (inl fails)))) = absurd (omega (arith, well, fails.0.2))
+wrote job bytes files status line now was is there well (inr (inr (p, code, given, of, is_code, inr (inl (below, fails))))) =
+    absurd (omega (arith, well, encode_fails_5 code job status line (Some files) now was is fails))
 wrote job bytes files status line now was is there well (inr (inr (p, code, given, of, is_code, inr (inr out)))) = absurd (omega (arith, well, out.0.0))
 
 -- by codes that are alike the same files of chunks are written
@@ -133,7 +136,8 @@ back_of law encoded listed bytes files now run status line w follows all some th
     absurd (not_both_jobs listed refused.0 w.p refused.1 (job_as encoded listed w.p follows w.given))
 back_of law encoded listed bytes files now run status line w follows all some there no_fault decided went (inr (inr (q, other, given, of, is_code, inl ends))) =
     back_by law encoded listed bytes files now run status line w follows all some there decided q other given of is_code ends.0
-back_of law encoded listed bytes files now run status line w follows all some there no_fault decided went (inr (inr (q, other, given, of, is_code, inr (inl fails)))) = absurd (no_fault fails.0.2)
+back_of law encoded listed bytes files now run status line w follows all some there no_fault decided went (inr (inr (q, other, given, of, is_code, inr (inl fails)))) =
+    absurd (no_fault (decode_fails_5 other listed status line run.before run.now run.was run.is fails.2))
 back_of law encoded listed bytes files now run status line w follows all some there no_fault decided went (inr (inr (q, other, given, of, is_code, inr (inr out)))) = absurd (went out.0.0)
 
 pub runs_come_back : LayersHaveOneCode → (named : List ℕ → Type 0) → EncodedRunsComeBack named

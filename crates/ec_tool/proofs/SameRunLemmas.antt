@@ -21,7 +21,9 @@ use Rattle.ec_tool.specs.Texts.{OneOf, number_line}
 use Rattle.ec_tool.specs.Words.{Words, Job, texts_of}
 use Rattle.ec_tool.specs.declared.request.Request.{Request}
 use Rattle.ec_tool.specs.declared.request.Request.TheVariants.{Wrong, Exists, Validate, Size, Encode, Decode}
+use Rattle.ec_tool.proofs.DecodeLemmas.{decode_fails_5}
 use Rattle.ec_tool.proofs.DoneLemmas.{some_wanted}
+use Rattle.ec_tool.proofs.EncodeLemmas.{encode_fails_5}
 use Rattle.ec_tool.proofs.SameCodeLemmas.{codes_one}
 use Rattle.ec_tool.proofs.SameDecodeLemmas.{decodes_one}
 use Rattle.ec_tool.proofs.SameEncodeLemmas.{Same, encodes_one}
@@ -95,7 +97,7 @@ encode_ends_one job files status its_status no_fault went its_no_fault also one 
   where
     ended : (code : CodeRows) (s : ℕ) (l : List ℕ) (n : Option FileMap) (w i : ℕ) → s ≢ 5 → s ≢ 13 → EncodeEnds code job s l (Some files) n w i → Encodes code job (Some files) s l n
     ended code s l n w i not_5 not_13 (inl e) = e.0
-    ended code s l n w i not_5 not_13 (inr (inl e)) = absurd (not_5 e.0.2)
+    ended code s l n w i not_5 not_13 (inr (inl e)) = absurd (not_5 (encode_fails_5 code job s l (Some files) n w i e.1))
     ended code s l n w i not_5 not_13 (inr (inr e)) = absurd (not_13 e.0.0)
 
 decode_ends_one : LeastPlanIsOne → (job : Job) (files : FileMap) (status its_status : ℕ) → 1 ≤ length job.wanted → HoldBytes files → status ≢ 5 → status ≢ 13 → its_status ≢ 5 → its_status ≢ 13
@@ -106,7 +108,7 @@ decode_ends_one law job files status its_status some hold no_fault went its_no_f
   where
     ended : (code : CodeRows) (s : ℕ) (l : List ℕ) (n : Option FileMap) (w i : ℕ) → s ≢ 5 → s ≢ 13 → DecodeEnds code job s l (Some files) n w i → Decodes code job (Some files) s l n
     ended code s l n w i not_5 not_13 (inl e) = e.0
-    ended code s l n w i not_5 not_13 (inr (inl e)) = absurd (not_5 e.0.2)
+    ended code s l n w i not_5 not_13 (inr (inl e)) = absurd (not_5 (decode_fails_5 code job s l (Some files) n w i e.2))
     ended code s l n w i not_5 not_13 (inr (inr e)) = absurd (not_13 e.0.0)
 
 -- ---- runs

@@ -41,9 +41,11 @@ StopsAtFile (Some files) name positions i (Missing shown) =
 StopsAtFile (Some files) name positions i (TooLong shown) =
     (string_bytes shown ≡ chunk_name name (slice_index positions i)) × AreReadable files name (take i positions)
     × IsSomeAnd (map.get files (chunk_name name (slice_index positions i))) (λ bytes. max_file < length bytes)
+StopsAtFile (Some files) name positions i (Failed shown) =
+    (string_bytes shown ≡ chunk_name name (slice_index positions i)) × AreReadable files name (take i positions)
 StopsAtFile None name positions i (Missing shown) = string_bytes shown ≡ chunk_name name (slice_index positions i)
 StopsAtFile None name positions i (TooLong shown) = string_bytes shown ≡ chunk_name name (slice_index positions i)
-StopsAtFile files name positions i (Failed shown) = string_bytes shown ≡ chunk_name name (slice_index positions i)
+StopsAtFile None name positions i (Failed shown) = string_bytes shown ≡ chunk_name name (slice_index positions i)
 StopsAtFile files name positions i NoMemory = ⊤
 StopsAtFile files name positions i _ = ⊥
 

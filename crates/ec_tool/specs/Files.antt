@@ -4,6 +4,7 @@ use Rattle.std.specs.Ordering.{nat_cmp}
 use Rattle.std.specs.Cmp.Lexicographic.{slice_cmp}
 use Rattle.std.specs.FinMap as map
 use Rattle.rig_disk.specs.Faults.{Rose, count_limit}
+use Rattle.stripe_map.specs.Decoding.{bytes_of}
 use Rattle.ec_tool.specs.declared.fault.FileFault.{FileFault}
 use Rattle.ec_tool.specs.declared.fault.FileFault.TheVariants.{Missing, TooLong, Failed, NoMemory}
 
@@ -41,18 +42,13 @@ Writes (Some old) None name bytes result = ⊥
 Writes (Some old) (Some new) name bytes result =
     MatchResult result (λ _. new ≡ map.insert old name bytes) (λ _. KeepsOthers old new name)
 
--- the bytes of a file, and none where it is not there
-abbrev pub content : Option (List ℕ) → List ℕ
-content (Some bytes) = bytes
-content None = []
-
--- the file of this name has these bytes more at its end, and all others stay; at a failure nothing is said of that one file.
--- Whether the files are told stays
+-- the file of this name, which is empty where it is not there, has these bytes more at its end, and all others stay; at a failure
+-- nothing is said of that one file. Whether the files are told stays
 abbrev pub Appends : {T E : Type 0} → Option FileMap → Option FileMap → List ℕ → List ℕ → Result T E → Type 0
 Appends None new name bytes result = new ≡ None
 Appends (Some old) None name bytes result = ⊥
 Appends (Some old) (Some new) name bytes result =
-    MatchResult result (λ _. new ≡ map.insert old name (content (map.get old name) ++ bytes)) (λ _. KeepsOthers old new name)
+    MatchResult result (λ _. new ≡ map.insert old name (bytes_of (map.get old name) ++ bytes)) (λ _. KeepsOthers old new name)
 
 -- the count of a read: it never falls, stays at each answer but `Failed`, rises there, and stands still at the
 -- largest

@@ -19,7 +19,7 @@ ChecksLengths {T} k unit name long chunks (Err NoMemory) = ⊤
 ChecksLengths {T} k unit name long chunks (Err _) = ⊥
 
 -- these are `count` stripes, those from stripe `from` on, of what the first n positions' chunks make by some rows
-pub record AreStripes (k unit n : ℕ) (rows : List (List ℕ)) (chunks : List (Option (List ℕ))) (from count : ℕ) (piece : List ℕ) : Type 0 where
+pub record AreMadeStripes (k unit n : ℕ) (rows : List (List ℕ)) (chunks : List (Option (List ℕ))) (from count : ℕ) (piece : List ℕ) : Type 0 where
   pub long : length piece ≡ count * k * unit
   pub bytes : (v b : ℕ) → v < count * k → b < unit → slice_index piece (v * unit + b) ≡ made_byte n (row_at rows (v % k)) chunks (from * unit + (v / k * unit + b))
 
@@ -32,7 +32,7 @@ AddsStripes k unit rows q chunk from count old new = (v b : ℕ) → v < count *
 -- some stripes were to be put behind those before them, or made the first ones of a file
 abbrev pub PutsStripes : {T E : Type 0} → ℕ → ℕ → ℕ → List (List ℕ) → List (Option (List ℕ)) → ℕ → ℕ → Option FileMap → Option FileMap → List ℕ → Bool → Result T E → Type 0
 PutsStripes {T} {E} k unit n rows chunks from count before now name first result =
-    (piece : List ℕ) × AreStripes k unit n rows chunks from count piece × Puts {T = T} {E = E} before now name first piece result
+    (piece : List ℕ) × AreMadeStripes k unit n rows chunks from count piece × Puts {T = T} {E = E} before now name first piece result
 
 -- the file of this name has what the chunks make, and all others stay; at a failure nothing is said of that one file
 abbrev pub WritesMade : {T E : Type 0} → ℕ → ℕ → ℕ → List (List ℕ) → List (Option (List ℕ)) → ℕ → Option FileMap → Option FileMap → List ℕ → Result T E → Type 0

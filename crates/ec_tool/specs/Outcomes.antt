@@ -1,15 +1,17 @@
 -- What the commands come to: a status, a line, and the files. Source: this project.
 -- `before` and `now` are the files, where they are told; `was` and `is` are the counts of their faults.
-use Rattle.std.specs.Prelude.{◌≡◌, ◌⊎◌, ℕ, List, [], Option, Some}
+use Rattle.std.specs.Prelude.{◌≡◌, ◌<◌, ◌⊎◌, ℕ, List, [], length, take, slice_index, Option}
 use Rattle.ec_model.specs.Codes.{CodeRows, IsCode}
 use Rattle.ec_code.specs.declared.profile.Profile.{Profile}
 use Rattle.ec_code.specs.declared.fault.ProfileFault.{ProfileFault}
 use Rattle.ec_code.specs.Refusals.{IsCodeOf}
 use Rattle.plugin_reg.specs.Opening.{GivesProfile, IsRefused, fault_line}
 use Rattle.rig_disk.specs.Faults.{Rose}
+use Rattle.ec_tool.specs.Accesses.{Told}
+use Rattle.ec_tool.specs.Chunks.{AreBelow, AreReadable, DecideTheData, chunk_name}
 use Rattle.ec_tool.specs.Files.{FileMap, KeepsOthers}
 use Rattle.ec_tool.specs.Jobs.{IsRefusedJob, GivesJob}
-use Rattle.ec_tool.specs.Runs.{Encodes, EncodesInPart, Decodes, IsFileOf}
+use Rattle.ec_tool.specs.Runs.{Encodes, EncodesFirst, Decodes, CanDecode, WhereTold}
 use Rattle.ec_tool.specs.Texts.{failed_line}
 use Rattle.ec_tool.specs.Words.{Job}
 
@@ -24,29 +26,50 @@ Shows profile shown status line =
     ⊎ ((f : ProfileFault) × IsRefused profile f × (status ≡ 3) × (line ≡ fault_line f))
     ⊎ ((p : Profile) × (code : CodeRows) × GivesProfile profile p × IsCodeOf p code × (status ≡ 0) × (line ≡ shown code))
 
--- a call of the files failed, on a file of the job
-abbrev pub Fails : Job → ℕ → List ℕ → ℕ → ℕ → Type 0
-Fails job status line was is = (name : List ℕ) × IsFileOf job name × (status ≡ 5) × (line ≡ failed_line name) × Rose was is
+-- reading or writing the file of this name failed
+abbrev pub Fails : List ℕ → ℕ → List ℕ → ℕ → ℕ → Type 0
+Fails name status line was is = (status ≡ 5) × (line ≡ failed_line name) × Rose was is
 
--- of the files that are told only the chunks of the first wanted positions were written, and the next file perhaps in part
-abbrev pub EncodePart : CodeRows → Job → Option FileMap → Option FileMap → Type 0
-EncodePart code job before now = (old new : FileMap) → before ≡ Some old → now ≡ Some new → (new ≡ old) ⊎ EncodesInPart code job old new
+-- `encode` could not read its file, and no file changed
+abbrev pub EncodeUnread : Job → ℕ → List ℕ → Option FileMap → Option FileMap → ℕ → ℕ → Type 0
+EncodeUnread job status line before now was is = Fails job.name status line was is × (now ≡ before)
 
--- files are encoded, or a call of them failed, or memory ran out
+-- `encode` could not write the file of a wanted position: those of the positions before it are whole, that one may have any
+-- bytes or be there or not, and all others are as they were
+abbrev pub EncodeUnwritten : CodeRows → Job → ℕ → List ℕ → Option FileMap → Option FileMap → ℕ → ℕ → Type 0
+EncodeUnwritten code job status line before now was is =
+    (count : ℕ) × (count < length job.wanted) × Fails (chunk_name job.name (slice_index job.wanted count)) status line was is
+    × Told before now (λ old new. (whole : FileMap) × EncodesFirst code job count old whole × KeepsOthers whole new (chunk_name job.name (slice_index job.wanted count)))
+
+-- memory ran out in `encode`: no file changed, or those of the first wanted positions are whole and all others are as they were
+abbrev pub EncodeOut : CodeRows → Job → Option FileMap → Option FileMap → Type 0
+EncodeOut code job before now =
+    (now ≡ before) ⊎ (AreBelow code.n job.wanted × ((count : ℕ) × (count < length job.wanted) × Told before now (EncodesFirst code job count)))
+
+-- files are encoded, or reading or writing one failed, or memory ran out
 abbrev pub EncodeEnds : CodeRows → Job → ℕ → List ℕ → Option FileMap → Option FileMap → ℕ → ℕ → Type 0
 EncodeEnds code job status line before now was is =
     (Encodes code job before status line now × (is ≡ was))
-    ⊎ (Fails job status line was is × EncodePart code job before now)
-    ⊎ (RunsOut status line × (is ≡ was) × EncodePart code job before now)
+    ⊎ (AreBelow code.n job.wanted × (EncodeUnread job status line before now was is ⊎ EncodeUnwritten code job status line before now was is))
+    ⊎ (RunsOut status line × (is ≡ was) × EncodeOut code job before now)
 
--- of the files that are told at most the one to be decoded changed
-abbrev pub DecodePart : Job → Option FileMap → Option FileMap → Type 0
-DecodePart job before now = (old new : FileMap) → before ≡ Some old → now ≡ Some new → KeepsOthers old new job.name
+-- `decode` could not read the file of a listed position: those of the positions before it can be read, and no file changed
+abbrev pub DecodeUnread : Job → ℕ → List ℕ → Option FileMap → Option FileMap → ℕ → ℕ → Type 0
+DecodeUnread job status line before now was is =
+    (i : ℕ) × (i < length job.wanted) × Fails (chunk_name job.name (slice_index job.wanted i)) status line was is
+    × WhereTold before (λ files. AreReadable files job.name (take i job.wanted)) × (now ≡ before)
 
+-- `decode` could not write its file, which may have any bytes or be there or not; all others are as they were
+abbrev pub DecodeUnwritten : CodeRows → Job → ℕ → List ℕ → Option FileMap → Option FileMap → ℕ → ℕ → Type 0
+DecodeUnwritten code job status line before now was is =
+    Fails job.name status line was is × Told before now (λ old new. CanDecode code job old × KeepsOthers old new job.name)
+
+-- a file is decoded, or reading or writing one failed, or memory ran out before anything was written
 abbrev pub DecodeEnds : CodeRows → Job → ℕ → List ℕ → Option FileMap → Option FileMap → ℕ → ℕ → Type 0
 DecodeEnds code job status line before now was is =
     (Decodes code job before status line now × (is ≡ was))
-    ⊎ (Fails job status line was is × DecodePart job before now)
+    ⊎ (AreBelow code.n job.wanted × DecideTheData code job.wanted
+    × (DecodeUnread job status line before now was is ⊎ DecodeUnwritten code job status line before now was is))
     ⊎ (RunsOut status line × (is ≡ was) × (now ≡ before))
 
 -- files are coded by the code of a job's profile; or the profile or the unit is refused, or memory ran out before, and no file changed

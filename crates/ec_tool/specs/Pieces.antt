@@ -8,7 +8,7 @@ use Rattle.ec_tool.specs.Accesses.{Told}
 use Rattle.ec_tool.specs.Files.{FileMap, KeepsOthers}
 
 -- the bytes are whole stripes
-pub record AreStripes (k unit : ℕ) (bytes : List ℕ) : Type 0 where
+pub record AreWholeStripes (k unit : ℕ) (bytes : List ℕ) : Type 0 where
   pub count : ℕ
   pub long : length bytes ≡ count * (k * unit)
 

@@ -4,7 +4,7 @@ use Rattle.std.specs.List.{flat_map}
 use Rattle.std.specs.FinMap as map
 use Rattle.ec_model.specs.Codes.{CodeRows}
 use Rattle.stripe_map.specs.Sizes.{chunk_size_of}
-use Rattle.ec_tool.specs.Files.{FileMap, KeepsOthers, max_file}
+use Rattle.ec_tool.specs.Files.{FileMap, max_file}
 use Rattle.ec_tool.specs.Texts.{usage_line, missing_line, too_long_line, not_decided_line, lengths_line, number_line}
 use Rattle.ec_tool.specs.Words.{Job}
 use Rattle.ec_tool.specs.Chunks.{AreBelow, Written, after, AreChunkFiles, DecideTheData, IsReadPlan, AreReadable, HaveLength, IsDecoded, chunk_name}
@@ -83,16 +83,15 @@ pub record Encodes (code : CodeRows) (job : Job) (before : Option FileMap) (stat
   pub answers : AreBelow code.n job.wanted → EncodeAnswers job status line
   pub files : AreBelow code.n job.wanted → WhereTold before (EncodesFiles code job status line now)
 
--- `encode` was stopped by a failure or by want of memory: the chunks of the first wanted positions were written, and the file
--- of the next one may have any bytes
-pub record EncodesInPart (code : CodeRows) (job : Job) (files now : FileMap) : Type 0 where
+-- the file of a job of `encode` was read, and those of the first `count` wanted positions were written, each whole: these are
+-- the files then
+pub record EncodesFirst (code : CodeRows) (job : Job) (count : ℕ) (files now : FileMap) : Type 0 where
   pub bytes : List ℕ
   pub is_read : map.get files job.name ≡ Some bytes
-  pub count : ℕ
-  pub some_left : count < length job.wanted
+  pub short : length bytes ≤ max_file
   pub written : List Written
   pub are : AreChunkFiles code job.unit job.name bytes (take count job.wanted) written
-  pub others : KeepsOthers (after files written) now (chunk_name job.name (slice_index job.wanted count))
+  pub left : now ≡ after files written
 
 -- `decode` of listed positions that are all of the code's and decide its data, by the files that are read in turn: then their
 -- lengths, and then the length of what is decoded
@@ -111,6 +110,14 @@ pub record DecodesFiles (code : CodeRows) (job : Job) (status : ℕ) (line : Lis
       → code.k * long ≤ max_file
       → (status ≡ 0) × (line ≡ []) × ((plan : ℕ) × (found : List ℕ) × IsReadPlan code job.wanted plan
       × IsDecoded code job.unit files job.name plan long found × (now ≡ Some (map.insert files job.name found)))
+
+-- the files of all listed positions can be read, and they give a file that is not too long
+pub record CanDecode (code : CodeRows) (job : Job) (files : FileMap) : Type 0 where
+  pub long : ℕ
+  pub readable : AreReadable files job.name job.wanted
+  pub whole : long % job.unit ≡ 0
+  pub lengths : HaveLength files job.name job.wanted long
+  pub short : code.k * long ≤ max_file
 
 -- `decode`: a position that is none of the code's, then whether the listed ones decide the data, and then the files
 pub record Decodes (code : CodeRows) (job : Job) (before : Option FileMap) (status : ℕ) (line : List ℕ) (now : Option FileMap) : Type 0 where

@@ -3,8 +3,8 @@ use Rattle.std.specs.Prelude.{⊤, ℕ, List, [], string_bytes, Result, Ok, Err}
 use Rattle.plugin_reg.specs.Opening.{fault_line}
 use Rattle.ec_tool.specs.declared.stop.Stop.{Stop}
 use Rattle.ec_tool.specs.declared.stop.Stop.TheVariants.{Usage, Profile, Missing, Failed, NotDecided, Lengths, TooLong, NoMemory}
-use Rattle.plugin_reg.specs.declared.reading.RegFault.{RegFault}
-use Rattle.plugin_reg.specs.declared.reading.RegFault.TheVariants as reg
+use Rattle.profile_texts.specs.declared.reading.RegFault.{RegFault}
+use Rattle.profile_texts.specs.declared.reading.RegFault.TheVariants as reg
 use Rattle.ec_tool.specs.Jobs.{IsRefusedJob}
 use Rattle.ec_tool.specs.Words.{Job}
 use Rattle.ec_tool.specs.Texts.{usage_line, missing_line, failed_line, not_decided_line, lengths_line, too_long_line}

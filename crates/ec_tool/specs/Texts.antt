@@ -1,8 +1,9 @@
 -- The lines that the tool says, and its statuses. Source: this project.
-use Rattle.std.specs.Prelude.{◌≡◌, ◌⊎◌, ℕ, List, [], ◌∷◌, ◌++◌, codes, Option}
+use Rattle.std.specs.Prelude.{◌≡◌, ℕ, List, [], ◌∷◌, ◌++◌, codes, Option}
 use Rattle.std.specs.Fmt.{decimal}
 use Rattle.std.specs.Io.KnownBytes.{Appends}
 use Rattle.rig_disk.specs.Said.{SaysFront}
+pub use Rattle.ec_words.specs.Numbers.{OneOf}
 
 abbrev pub usage_line : List ℕ
 usage_line = codes "usage: ceph_ec_tool test-plugin-exists, validate-profile, calc-chunk-size, encode, decode\n"
@@ -35,11 +36,6 @@ lengths_line = codes "lengths\n"
 -- a number on a line of its own
 abbrev pub number_line : ℕ → List ℕ
 number_line n = decimal n ++ 10 ∷ []
-
--- the status is among these
-abbrev pub OneOf : ℕ → List ℕ → Type 0
-OneOf status [] = ⊥
-OneOf status (one ∷ more) = (status ≡ one) ⊎ OneOf status more
 
 -- a run ended with this status and said this line; or the output failed in it; or memory ran out and nothing was said
 pub record EndsWith (status : ℕ) (line : List ℕ) (before now : Option (List ℕ)) (ended : ℕ) : Type 0 where

@@ -12,15 +12,20 @@ use ec_words::Bytes;
 use rig_disk::Failed;
 use std::alloc::Global;
 
-/// All bytes of a file.
-pub fn read<F: Files>(alloc: Global, name: String, files: &mut F) -> Result<Bytes, Stop>
+/// All bytes of a file, with room for `spare` bytes more.
+pub fn read<F: Files>(
+    alloc: Global,
+    name: String,
+    spare: usize,
+    files: &mut F,
+) -> Result<Bytes, Stop>
     ensures value { ReadsOrStops (F.files files.old) (string_bytes name) result }
     ensures bound { IfOk result (λ bytes. length bytes ≤ max_file) }
     ensures kept { F.files files.new ≡ F.files files.old }
     ensures failed { status_after result ≡ 5 → Rose (F.faults files.old) (F.faults files.new) }
     ensures quiet { status_after result ≢ 5 → F.faults files.new ≡ F.faults files.old }
 {
-    match files.read_file(alloc, &name) {
+    match files.read_file(alloc, &name, spare) {
         Ok(bytes) => Ok(bytes),
         Err(FileFault::Missing) => Err(Stop::Missing(name)),
         Err(FileFault::TooLong) => Err(Stop::TooLong(name)),

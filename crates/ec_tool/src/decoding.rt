@@ -153,7 +153,7 @@ fn read_chunk<F: Files>(alloc: Global, name: &str, p: u8, files: &mut F) -> Resu
     ensures quiet { status_after result ≢ 5 → F.faults files.new ≡ F.faults files.old }
 {
     let file = chunk_name(alloc, name, p)?;
-    read(alloc, file, files)
+    read(alloc, file, 0, files)
 }
 
 // The length of the first listed position's chunks.

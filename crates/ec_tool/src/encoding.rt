@@ -10,7 +10,7 @@ ghost use Rattle.ec_tool.specs.Encoding.{WritesOne, WritesChunks};
 ghost use Rattle.ec_tool.specs.Files.{max_file};
 ghost use Rattle.ec_tool.specs.Requests.{job_of};
 ghost use Rattle.ec_tool.specs.Outcomes.{EncodeEnds};
-ghost use Rattle.ec_tool.specs.Pieces.{AreRowChunks, AreStripes, IsRowOf, WritesPieces};
+ghost use Rattle.ec_tool.specs.Pieces.{AreRowChunks, AreWholeStripes, IsRowOf, WritesPieces};
 ghost use Rattle.ec_tool.specs.Stops.{status_after, line_after};
 ghost use Rattle.ec_tool.specs.declared.limits.TheConstants.{PIECE};
 
@@ -43,8 +43,9 @@ pub fn encode_file<F: Files>(
     let shape = code.shape();
     let wanted = positions(alloc, &job.wanted, shape.n)?;
     let name = String::from_str(alloc, job.name)?;
-    let bytes = read(alloc, name, files)?;
     let g = geometry(shape.k, job.unit);
+    let width = g.k as usize * g.unit as usize;
+    let bytes = read(alloc, name, width, files)?;
     let whole = padded(g, bytes)?;
     let mut piece = vec![in alloc; 0u8; stripes_of_piece(g) * g.unit as usize]?;
     write_chunks(alloc, job.name, &wanted, code, g, &whole, &mut piece, files)
@@ -75,7 +76,7 @@ fn write_chunks<F: Files>(
     files: &mut F,
 ) -> Result<(), Stop>
     requires same_k { g.k ≡ (meaning code.now).k }
-    requires whole { AreStripes g.k g.unit bytes.now }
+    requires whole { AreWholeStripes g.k g.unit bytes.now }
     requires below { AreBelow (meaning code.now).n wanted.now }
     requires room { length piece.old ≡ PIECE / g.unit * g.unit }
     ensures value { WritesChunks (meaning code.now) g.unit name.now bytes.now wanted.now (F.files files.old) (F.files files.new) result }
@@ -108,7 +109,7 @@ fn write_chunk<F: Files>(
     files: &mut F,
 ) -> Result<(), Stop>
     requires same_k { g.k ≡ (meaning code.now).k }
-    requires whole { AreStripes g.k g.unit bytes.now }
+    requires whole { AreWholeStripes g.k g.unit bytes.now }
     requires below { p < (meaning code.now).n }
     requires room { length piece.old ≡ PIECE / g.unit * g.unit }
     ensures value { WritesOne (meaning code.now) g.unit name.now bytes.now p (F.files files.old) (F.files files.new) result }
@@ -134,7 +135,7 @@ fn write_pieces<F: Files>(
     files: &mut F,
 ) -> Result<(), Failed>
     requires same_k { g.k ≡ (meaning code.now).k }
-    requires whole { AreStripes g.k g.unit bytes.now }
+    requires whole { AreWholeStripes g.k g.unit bytes.now }
     requires below { position < (meaning code.now).n }
     requires room { length piece.old ≡ PIECE / g.unit * g.unit }
     ensures value { WritesPieces (meaning code.now) g.unit file.now bytes.now position (F.files files.old) (F.files files.new) result }

@@ -16,8 +16,9 @@ pub trait Files {
     /// How often a call has failed. It is always told.
     ghost faults: { Self → ℕ };
 
-    /// All bytes of a file. It changes no file.
-    fn read_file(&mut self, alloc: Global, name: &str) -> Result<Bytes, FileFault>
+    /// All bytes of a file, in memory that has room for `spare` bytes more, so that they can be added without a second copy. It
+    /// changes no file.
+    fn read_file(&mut self, alloc: Global, name: &str, spare: usize) -> Result<Bytes, FileFault>
         ensures value { Reads (files self.old) name.now result }
         ensures bound { IfOk result (λ bytes. length bytes ≤ MAX_FILE) }
         ensures kept { files self.new ≡ files self.old }

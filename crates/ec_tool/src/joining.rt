@@ -5,7 +5,7 @@ ghost use Rattle.std.specs.Option.{option_copied};
 ghost use Rattle.rig_disk.specs.Faults.{HasCause, Rose};
 ghost use Rattle.stripe_map.specs.Decoding.{AllHaveLength, HasLength};
 ghost use Rattle.ec_tool.specs.Files.{max_file};
-ghost use Rattle.ec_tool.specs.Joining.{AddsStripes, AreStripes, PutsStripes, WritesMade, WritesMadeOrStops};
+ghost use Rattle.ec_tool.specs.Joining.{AddsStripes, AreMadeStripes, PutsStripes, WritesMade, WritesMadeOrStops};
 ghost use Rattle.ec_tool.specs.Stops.{status_after};
 
 use crate::Files;
@@ -145,7 +145,7 @@ fn make_stripes(
     requires lengths { AllHaveLength chunks.now long }
     requires inside { from * g.unit + here * g.unit ≤ long }
     requires short { long ≤ max_file }
-    ensures value { AreStripes g.k g.unit n rows.now chunks.now from here piece.new }
+    ensures value { AreMadeStripes g.k g.unit n rows.now chunks.now from here piece.new }
     ensures long { length piece.new ≡ length piece.old }
 {
     piece.fill(0);

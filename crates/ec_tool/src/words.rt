@@ -131,6 +131,3 @@ fn read_coding<'a>(alloc: Global, arguments: &'a [String]) -> Result<Option<Codi
         name: name.as_str(),
     }))
 }
-
-#[cfg(test)]
-mod tests;

@@ -4,3 +4,5 @@ mod HexTextLemmas
 mod IntervalLemmas
 mod MaskLemmas
 mod NumberLemmas
+pub mod ReaderLemmas
+pub mod SetLemmas

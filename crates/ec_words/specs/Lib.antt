@@ -5,4 +5,5 @@ pub mod Laws
 pub mod Masks
 pub mod Names
 pub mod Numbers
+pub mod Readers
 pub mod Records

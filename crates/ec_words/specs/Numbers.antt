@@ -1,5 +1,5 @@
 -- Numbers in texts. Source: this project.
-use Rattle.std.specs.Prelude.{◌≡◌, ◌<◌, ◌≤◌, ◌^◌, ℕ, List, length, slice_index}
+use Rattle.std.specs.Prelude.{◌≡◌, ◌⊎◌, ◌<◌, ◌≤◌, ◌^◌, ℕ, List, [], ◌∷◌, length, slice_index}
 use Rattle.std.specs.Fmt.{decimal}
 
 -- a text is what is printed of a number below 2 ^ 64: its decimal digits, with no zero before them but in `0`
@@ -11,3 +11,8 @@ pub record StartsAsNumber (text : List ℕ) : Type 0 where
   pub some : 1 ≤ length text
   pub digit : (48 ≤ slice_index text 0) × (slice_index text 0 < 58)
   pub alone : slice_index text 0 ≡ 48 → length text ≡ 1
+
+-- a number is among these
+abbrev pub OneOf : ℕ → List ℕ → Type 0
+OneOf n [] = ⊥
+OneOf n (one ∷ more) = (n ≡ one) ⊎ OneOf n more

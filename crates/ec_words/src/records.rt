@@ -74,38 +74,3 @@ pub fn take_bytes(text: &[u8], at: usize, n: usize) -> Result<&[u8], Cut>
     }
     Ok(&text[at..at + n])
 }
-
-#[cfg(test)]
-mod tests {
-    use super::*;
-    use std::test::Fail;
-
-    // By hand: 0x01020304 and 0x05 in eight bytes.
-    #[test]
-    fn what_is_put_is_taken(rt: HostRuntime) -> Result<(), Fail> {
-        let mut out = Bytes::new(rt.alloc());
-        put_u32(&mut out, 0x0102_0304)?;
-        put_u64(&mut out, 5)?;
-        put_bytes(&mut out, b"ab")?;
-        let text = out.as_slice();
-        assert_eq!(rt;
-            text,
-            [1, 2, 3, 4, 0, 0, 0, 0, 0, 0, 0, 5, b'a', b'b'].as_slice()
-        );
-        assert_eq!(rt; take_u32(text, 0), Ok(0x0102_0304));
-        assert_eq!(rt; take_u64(text, 4), Ok(5));
-        assert_eq!(rt; take_bytes(text, 12, 2), Ok(b"ab".as_slice()));
-        assert_eq!(rt; take_bytes(text, 14, 0), Ok(b"".as_slice()));
-        Ok(())
-    }
-
-    #[test]
-    fn a_text_that_ends_too_early_is_cut(rt: HostRuntime) {
-        let text = b"12345678".as_slice();
-        assert_eq!(rt; take_u32(text, 5), Err(Cut { at: 5 }));
-        assert_eq!(rt; take_u64(text, 1), Err(Cut { at: 1 }));
-        assert_eq!(rt; take_bytes(text, 9, 0), Err(Cut { at: 9 }));
-        assert_eq!(rt; take_bytes(text, 1, usize::MAX), Err(Cut { at: 1 }));
-        assert_eq!(rt; take_u32(text, usize::MAX), Err(Cut { at: usize::MAX }));
-    }
-}

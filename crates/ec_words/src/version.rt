@@ -39,33 +39,3 @@ impl Version {
         self.epoch == other.epoch && self.seq == other.seq
     }
 }
-
-#[cfg(test)]
-mod tests {
-    use super::*;
-
-    // From the rule: the epoch counts first.
-    #[test]
-    fn versions_are_ordered_by_epoch_and_then_by_number(rt: HostRuntime) {
-        let rows: [(Version, Version); 3] = [
-            (Version { epoch: 0, seq: 0 }, Version { epoch: 0, seq: 1 }),
-            (
-                Version {
-                    epoch: 1,
-                    seq: u64::MAX,
-                },
-                Version { epoch: 2, seq: 0 },
-            ),
-            (Version { epoch: 2, seq: 3 }, Version { epoch: 2, seq: 4 }),
-        ];
-        for (low, high) in rows {
-            assert!(rt; low < high && low.is_up_to(&high), "at {low:?}");
-            assert!(rt; !(high < low) && !high.is_up_to(&low), "at {low:?}");
-            assert!(rt;
-                low.is_up_to(&low) && low.is_same(&low) && low == low,
-                "at {low:?}"
-            );
-            assert!(rt; !low.is_same(&high) && low != high, "at {low:?}");
-        }
-    }
-}

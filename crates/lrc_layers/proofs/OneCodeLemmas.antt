@@ -6,13 +6,13 @@ use Rattle.std.proofs.Math.Nat.{eq-zero-or-pos, mod-eq_of_lt}
 use Rattle.std.proofs.lemmas.Nat.{xor_lt, xor_of_8}
 use Rattle.ec_model.specs.Field.{field_product}
 use Rattle.ec_model.specs.Rows.{entry_at}
+use Rattle.ec_model.specs.Alike.{AreAlike}
 use Rattle.ec_model.specs.Codes.{CodeRows}
 use Rattle.ec_model.specs.ReedSolVan.{IsCodingEntry}
 use Rattle.ec_model.specs.Lrc.{IsCoding, IsMadeBefore, AreCoefficients, IsLrc, data_count, coding_count, mark_number, layer_text}
 use Rattle.gf256.proofs.CallerLemmas.{no_zero_divisor, field_product_comm, field_product-sum, field_product-lt, zero-field_product}
 use Rattle.ec_matrix.proofs.CallerLemmas.{sum_below-same}
 use Rattle.lrc_layers.specs.Layouts.{IsSound}
-use Rattle.lrc_layers.specs.Laws.{AreAlike}
 use Rattle.lrc_layers.proofs.CheckLemmas.{has_mark_or_not, made_or_not, made_earlier, same_length}
 use Rattle.lrc_layers.proofs.MarkLemmas.{number_inside, counts_few}
 use Rattle.lrc_layers.proofs.RowLemmas.{input_made}

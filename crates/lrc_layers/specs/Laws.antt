@@ -1,20 +1,12 @@
 -- Laws about codes made of layers. Source: this project.
-use Rattle.std.specs.Prelude.{◌≡◌, ◌<◌, ◌≤◌, ℕ, List, length, slice_index}
-use Rattle.ec_model.specs.Rows.{entry_at}
+use Rattle.std.specs.Prelude.{◌≡◌, ◌≤◌, ℕ, List, length}
+pub use Rattle.ec_model.specs.Alike.{AreAlike}
 use Rattle.ec_model.specs.Codes.{CodeRows}
 use Rattle.ec_model.specs.Lrc.{IsLrc, data_count}
 use Rattle.ec_code.specs.declared.mapping.Mapping.{Mapping}
 use Rattle.ec_code.specs.Mappings.{IsFront}
 use Rattle.ec_code.specs.LrcFaults.{text_of, data_chunks_of}
 use Rattle.lrc_layers.specs.Layouts.{IsSound}
-
--- two codes have the same numbers, the same rows and the same data positions
-pub record AreAlike (one other : CodeRows) : Type 0 where
-  pub data_chunks : one.k ≡ other.k
-  pub positions : one.n ≡ other.n
-  pub divisor : one.lead ≡ other.lead
-  pub rows : (p j : ℕ) → p < one.n → j < one.k → entry_at one.rows p j ≡ entry_at other.rows p j
-  pub places : (j : ℕ) → j < one.k → slice_index one.places j ≡ slice_index other.places j
 
 -- a mapping and layers without a fault have one code: the order in which its rows are made doesn't matter
 abbrev pub LayersHaveOneCode : Type 0

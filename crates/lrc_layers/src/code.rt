@@ -1,5 +1,6 @@
 //! The code as an object.
-ghost use Rattle.std.specs.Prelude.{codes};
+ghost use Rattle.std.specs.Prelude.{◌≡◌, codes, slice_index};
+ghost use Rattle.ec_model.specs.Rows.{entry_at};
 ghost use Rattle.ec_model.specs.Codes.{IsCode};
 ghost use Rattle.ec_model.specs.Lrc.{IsLrc};
 ghost use Rattle.ec_code.specs.Shapes.{HasShape};
@@ -9,11 +10,12 @@ ghost use Rattle.ec_code.specs.LrcFaults.{text_of_layer, layer_texts};
 use crate::layout::{Layout, layout_of};
 use crate::marks::{DATA, count_of, layer_of};
 use crate::places::places_of;
-use crate::rows::{rows_of, unit_row};
+use crate::rows::rows_of;
 use ec_code::{Code, Profile, ProfileFault, Shape, encode_rows};
+use rs_van::unit_row;
 
 /// The code of a mapping and its layers. Chunk sizes are multiples of the number of inputs of the first layer.
-#[derive(Clone, Copy, Debug)]
+#[derive(Clone, Copy)]
 pub struct Lrc {
     k: u8,
     n: u8,
@@ -24,9 +26,11 @@ pub struct Lrc {
 }
 
 impl Lrc {
-    /// The code before `init`: one data chunk, and no other position.
+    /// The code before `init`: one data chunk at position 0, with the row 1, and no other position.
     pub fn new() -> Lrc
-        ensures { HasShape (⟦<Lrc as Code>⟧.meaning result) 1 1 1 }
+        ensures shape { HasShape (⟦<Lrc as Code>⟧.meaning result) 1 1 1 }
+        ensures row { entry_at (⟦<Lrc as Code>⟧.meaning result).rows 0 0 ≡ 1 }
+        ensures place { slice_index (⟦<Lrc as Code>⟧.meaning result).places 0 ≡ 0 }
     {
         Lrc {
             k: 1,
@@ -89,6 +93,3 @@ impl Code for Lrc {
         encode_rows(&self.rows, self.k, self.n, stripe, unit, out);
     }
 }
-
-#[cfg(test)]
-mod tests;

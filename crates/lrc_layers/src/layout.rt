@@ -13,7 +13,7 @@ use crate::numbers::{has_many_positions, has_uneven_groups, made_by};
 use ec_code::{Key, Layer, Layers, Mapping, Plugin, Profile, ProfileFault};
 
 /// A mapping, and layers that make a code with it.
-#[derive(Clone, Copy, Debug)]
+#[derive(Clone, Copy)]
 pub struct Layout {
     pub mapping: Layer,
     pub layers: Layers,

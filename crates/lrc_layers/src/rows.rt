@@ -9,7 +9,7 @@ ghost use Rattle.lrc_layers.specs.Layouts.{IsSound};
 use crate::marks::{CODING, DATA, count_of, layer_of, mark_at, number_before};
 use ec_code::{Layer, Layers};
 use gf256::mul;
-use rs_van::coding_entry;
+use rs_van::{coding_entry, unit_row};
 
 /// Entry `j` of the sum of the first `n` rows, each times its coefficient.
 #[tactic(auto, unfolding(ec_model::specs::Rows::sum_below))]
@@ -68,17 +68,6 @@ fn add_layer(rows: &mut [[u8; 16]; 16], layer: &Layer)
             rows[p as usize] = combined(&coefficients_of(layer, p), rows, layer.len as u8);
         }
     }
-}
-
-pub fn unit_row(i: u8) -> [u8; 16]
-    requires { i < 16 }
-    ensures { (j : ℕ) → j < 16 → slice_index result j ≡ unit_entry i j }
-{
-    let mut row = [0u8; 16];
-    for j in 0..16u8 {
-        row[j as usize] = u8::from(i == j);
-    }
-    row
 }
 
 /// Unit rows at the data chunks of a mapping, numbered from the left.

@@ -106,6 +106,10 @@ lines_of settings = flat_map line_of settings
 abbrev pub canonical_lines : Profile → ℕ → ℕ → List ℕ
 canonical_lines p k n = lines_of (settings_by p.plugin p k n)
 
+-- a text is read as a profile that has each code of another
+abbrev pub KeepsCodes : Profile → List ℕ → Type 0
+KeepsCodes p text = (again : Profile) → profile_of text ≡ Ok again → (code : CodeRows) → IsCodeOf p code → IsCodeOf again code
+
 -- a text is read as an accepted profile, whose code has these numbers, and whose canonical lines are the text
 pub record PrintsAgain (text : List ℕ) (k n lead : ℕ) : Type 0 where
   pub again : Profile

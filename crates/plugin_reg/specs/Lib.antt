@@ -1,4 +1,3 @@
 pub mod Canonical
 pub mod Laws
 pub mod Opening
-pub mod SettingTexts

@@ -6,21 +6,13 @@
 //! `print_profile` gives the canonical lines of a profile: its settings by the bytes of their keys.
 #![tactic(auto)]
 
-#[cfg(test)]
-mod answers;
-mod forms;
-mod json;
 mod laws;
-mod layers;
 mod opening;
 mod picks;
 mod printing;
-mod reading;
-mod settings;
 
-pub use json::{read_any, read_profile_json};
 pub use laws::{lines_are_read_back, read_profiles_are_writable};
 pub use opening::{Opened, open_profile, print_fault};
 pub use picks::{has_box, has_each_plugin, pick};
 pub use printing::print_profile;
-pub use reading::{RegFault, read_profile};
+pub use profile_texts::{RegFault, read_any, read_profile, read_profile_json};

@@ -72,6 +72,3 @@ pub fn pick(codes: &mut [Box<dyn Code>], profile: &Profile) -> Result<usize, Pro
         None => Err(ProfileFault::UnknownPlugin),
     }
 }
-
-#[cfg(test)]
-mod tests;

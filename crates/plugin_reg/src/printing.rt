@@ -5,7 +5,7 @@ ghost use Rattle.ec_model.specs.Codes.{CodeRows};
 ghost use Rattle.ec_code.specs.LrcFaults.{text_of, text_of_layer, layer_texts, has_number};
 ghost use Rattle.ec_code.specs.Refusals.{IsCodeOf, IsAccepted};
 ghost use Rattle.ec_code.specs.Shapes.{HasShape};
-ghost use Rattle.plugin_reg.specs.Canonical.{line_of, lines_of, least_of, jerasure_settings, shec_settings, number_settings, layout_settings, lrc_settings, layer_item, layer_items, layers_text, mapping_in, layers_in, canonical_lines, IsWritable, PrintsAgain};
+ghost use Rattle.plugin_reg.specs.Canonical.{line_of, lines_of, least_of, jerasure_settings, shec_settings, number_settings, layout_settings, lrc_settings, layer_item, layer_items, layers_text, mapping_in, layers_in, canonical_lines, IsWritable, KeepsCodes, PrintsAgain};
 
 use ec_code::{Layer, Layers, Mapping, Plugin, Profile, Shape, default_min};
 use ec_words::{Bytes, NoMemory};
@@ -39,12 +39,13 @@ fn push_number(alloc: Global, list: &mut Vec<u8>, key: &str, value: u32) -> Resu
 
 /// The canonical lines of an accepted profile, with the shape of its code: `KEY=VALUE` and a line feed for each setting that has
 /// a value, and for min_size, by the bytes of the keys. Those of a profile whose mapping and layers have their marks alone, as each
-/// that is read has, are read as a profile of the same code that is printed so again.
+/// that is read has, are read as a profile that has each code of this one and is printed so again.
 pub fn print_profile(alloc: Global, profile: &Profile, shape: Shape) -> Result<Bytes, NoMemory>
     requires accepted { IsAccepted profile.now }
     requires shape { (code : CodeRows) × IsCodeOf profile.now code × HasShape code shape.k shape.n shape.lead }
     ensures value { IfOk result (λ text. text ≡ canonical_lines profile.now shape.k shape.n) }
     ensures again { IsWritable profile.now → IfOk result (λ text. PrintsAgain text shape.k shape.n shape.lead) }
+    ensures codes { IsWritable profile.now → IfOk result (λ text. KeepsCodes profile.now text) }
 {
     let least = least_of(profile, shape);
     let text = profile_lines(alloc, profile, shape, least)?;
@@ -243,6 +244,3 @@ fn push_marks(list: &mut Vec<u8>, first: &[u8; 16], len: usize) -> Result<(), No
     }
     Ok(())
 }
-
-#[cfg(test)]
-mod tests;

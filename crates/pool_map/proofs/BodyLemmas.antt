@@ -2,9 +2,9 @@
 use Rattle.std.proofs.Common.{rules, Fits, w8, slice_index_or, suc, take, drop, ◌-◌, ◌<◌, ◌≡◌, ℕ, List, [], ◌∷◌, ◌++◌, length, sym, ap, subst, ◌∙◌, arith}
 use Rattle.std.proofs.lemmas.List.{take_all, length-drop}
 use Rattle.ec_code.specs.declared.profile.Profile.{Profile as Plain}
-use Rattle.shard_model.specs.StepBytes.{IsCounted}
-use Rattle.shard_model.specs.StepReading.{AreBytes}
-use Rattle.shard_model.proofs.ReadingLemmas.{same_read, not_read}
+use Rattle.ec_words.specs.Readers.{IsCounted}
+use Rattle.ec_words.specs.Readers.{AreBytes}
+use Rattle.ec_words.proofs.ReaderLemmas.{same_read, not_read}
 use Rattle.std.proofs.Common.{Some, None}
 use Rattle.pool_map.specs.Maps.{PoolImage, Story, LeadAll, new_story, story_of, IsMapOf, IsCanonical}
 use Rattle.pool_map.specs.Steps.{MapStep, Profile, step_bytes}

@@ -2,7 +2,7 @@
 use Rattle.std.proofs.Common.{◌≡◌, ℕ, List, Option, refl, sym, ap, subst, ◌∙◌}
 use Rattle.rig_disk.specs.Disk.{Image, on_told}
 use Rattle.rig_disk.proofs.Moments.{at_end}
-use Rattle.slot_journal.specs.InUse.{open_text}
+use Rattle.slot_journal.specs.InUse.{open_text, first_told}
 use Rattle.slot_journal.specs.Journal.{slot_of, Holds, InSlot, IsSettledWhereTold}
 use Rattle.slot_journal.specs.declared.journal.Journal.{Journal}
 use Rattle.pool_map.specs.Laws.{HasSlotOf, AnyStep, MapsStayHeld, MapsStayElsewhere, MapsStayOver}
@@ -16,7 +16,11 @@ module _ (reads later_reads : ℕ → ℕ → Option (List ℕ)) (images later :
   pub still_holds : (head : List ℕ) (bodies : List (List ℕ)) (text : List ℕ) → Holds reads images journal head bodies text → Holds later_reads later journal head bodies text
   still_holds head bodies text holds = record {
     told = ap (on_told open_text) (same 0) ∙ holds.told;
+    told_in = ap first_told (same 0) ∙ holds.told_in;
     is_text = holds.is_text;
+    durable_in = λ image said now.
+        let f = from image said now in
+        holds.durable_in f.source f.said f.was;
     durable = λ image said now.
         let f = from image said now in
         ap open_text (f.same 0) ∙ holds.durable f.source f.said f.was;

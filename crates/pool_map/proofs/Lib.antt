@@ -6,9 +6,10 @@ mod HeldLemmas
 mod MakeLemmas
 mod OneMapLemmas
 mod PlainLemmas
+mod PositionLemmas
 mod RangeLemmas
 mod ReadingLemmas
-mod SoundLemmas
+pub mod SoundLemmas
 mod StoryLemmas
 mod TextLemmas
 mod WorkLemmas

@@ -17,7 +17,7 @@ use Rattle.ec_code.specs.declared.profile.Profile.{Profile as Plain}
 use Rattle.ec_code.proofs.GivenLemmas.{of_settings, of_text}
 use Rattle.ec_words.specs.Intervals.{Interval, with_last_alive}
 use Rattle.plugin_reg.specs.Canonical.{canonical_lines, lines_of, settings_by, lrc_settings, least_of, PrintsAgain}
-use Rattle.shard_model.specs.StepBytes.{version_bytes}
+use Rattle.ec_words.specs.Readers.{version_bytes}
 use Rattle.pool_map.specs.Maps.{Story, Leads, new_story, last_of, fits, story_after, replay, begun, is_inside, IsMapOf, IsCanonical}
 use Rattle.pool_map.specs.Pool.{all_of, first_interval, new_map}
 use Rattle.pool_map.specs.Steps.{Begin, Alive, Profile, step_bytes}

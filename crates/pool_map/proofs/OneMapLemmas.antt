@@ -6,8 +6,8 @@ use Rattle.byteorder.specs.Numbers.{big_number-reads_back}
 use Rattle.ec_code.specs.declared.fault.ProfileFault.{ProfileFault}
 use Rattle.ec_code.specs.declared.profile.Profile.{Profile as Plain}
 use Rattle.ec_code.specs.JsonProfiles.{profile_of_bytes}
-use Rattle.shard_model.specs.StepBytes.{IsWord}
-use Rattle.shard_model.proofs.ReadingLemmas.{same_read}
+use Rattle.ec_words.specs.Readers.{IsWord}
+use Rattle.ec_words.proofs.ReaderLemmas.{same_read}
 use Rattle.slot_journal.specs.Laws.{TextsHaveOneReading}
 use Rattle.pool_map.specs.Maps.{PoolImage, Story, Leads, LeadAll, new_story, story_of, replay, map_head, IsMapOf, IsMapText}
 use Rattle.pool_map.specs.Steps.{MapStep, Profile, step_bytes, steps_bytes, IsWritable}

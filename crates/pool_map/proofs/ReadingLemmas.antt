@@ -4,10 +4,10 @@ use Rattle.std.specs.Int.{bytes_high_first}
 use Rattle.std.proofs.lemmas.Bool.{eqb-true}
 use Rattle.std.proofs.lemmas.Nat.{be_bytes_2, from_be_bytes-to_be_bytes_2}
 use Rattle.std.proofs.lemmas.List.{append_assoc}
-use Rattle.shard_model.specs.StepBytes.{version_bytes, IsWord, HasWords}
-use Rattle.shard_model.specs.StepReading.{Reader, AreBytes, IsReadingOf, mapped, both, read_byte, read_u32, read_counted, read_version}
-use Rattle.shard_model.proofs.ReadingLemmas.{same_read, not_read, parts, on, both_reading, byte_reading, u32_reading}
-use Rattle.shard_model.proofs.StepReadingLemmas.{counted_list, version_reading}
+use Rattle.ec_words.specs.Readers.{version_bytes, IsWord, HasWords}
+use Rattle.ec_words.specs.Readers.{Reader, AreBytes, IsReadingOf, mapped, both, read_byte, read_u32, read_counted, read_version}
+use Rattle.ec_words.proofs.ReaderLemmas.{same_read, not_read, parts, on, both_reading, byte_reading, u32_reading}
+use Rattle.ec_words.proofs.ReaderLemmas.{counted_list, version_reading}
 use Rattle.pool_map.specs.Steps.{MapStep, Profile, Begin, Alive, Mark, mask_bytes, step_bytes, IsWritable}
 use Rattle.pool_map.specs.StepReading.{mask_from, read_mask, begin_of, alive_of, mark_of, read_lines, read_begin, read_alive, read_mark, read_kind, read_step}
 

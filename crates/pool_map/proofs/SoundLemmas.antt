@@ -8,7 +8,7 @@ use Rattle.std.proofs.lemmas.Nat.{and_le_r, or_lt, xor_lt, pow_pos}
 use Rattle.std.proofs.lemmas.Option.{slice_get-get_or}
 use Rattle.ec_model.specs.Versions.{Version}
 use Rattle.ec_words.specs.Intervals.{Interval, went_alive, with_last_alive}
-use Rattle.auth_log.specs.Choice.{JoinedLieBelow}
+use Rattle.ec_words.specs.Intervals.{JoinedLieBelow}
 use Rattle.pool_map.specs.Maps.{Story, LeadAll, PoolImage, IsMapOf, kept, new_story, begun, fits, story_after, story_of, replay, last_of, last_epoch, epoch_of, epoch_limit, is_inside, may_join, with_mark}
 use Rattle.pool_map.specs.Sound.{IsOfPool, IsSound}
 use Rattle.pool_map.specs.Steps.{MapStep, Begin, Alive, Mark}

@@ -4,8 +4,8 @@ use Rattle.std.specs.List.{AllByRecursion}
 use Rattle.std.proofs.lemmas.Bool.{false≢true, cond-true}
 use Rattle.std.proofs.lemmas.List.{length-append}
 use Rattle.ec_words.specs.Intervals.{Interval}
-use Rattle.shard_model.specs.StepReading.{AreBytes}
-use Rattle.shard_model.proofs.ReadingLemmas.{rest_bytes, not_read, same_read}
+use Rattle.ec_words.specs.Readers.{AreBytes}
+use Rattle.ec_words.proofs.ReaderLemmas.{rest_bytes, not_read, same_read}
 use Rattle.pool_map.specs.Maps.{Story, Leads, LeadAll, fits, story_after, replay, last_of}
 use Rattle.pool_map.specs.Steps.{MapStep, Profile, Begin, Alive, Mark, step_bytes, steps_bytes, IsWritable}
 use Rattle.pool_map.specs.StepReading.{read_step}

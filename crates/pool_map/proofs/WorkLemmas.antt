@@ -6,7 +6,7 @@ use Rattle.std.proofs.lemmas.List.{append-nil, length-append}
 use Rattle.ec_code.specs.declared.profile.Profile.{Profile as Plain}
 use Rattle.ec_code.specs.JsonProfiles.{profile_of_bytes}
 use Rattle.plugin_reg.specs.Canonical.{canonical_lines}
-use Rattle.shard_model.specs.StepBytes.{IsWord}
+use Rattle.ec_words.specs.Readers.{IsWord}
 use Rattle.rig_disk.specs.Disk.{Image}
 use Rattle.rig_disk.specs.During.{During}
 use Rattle.rig_disk.proofs.Moments.{started, weaker}
@@ -134,7 +134,7 @@ module _ {R : Type 0} (clock_of : R → ℕ) (images_of : R → ℕ → Image �
             bodies = held.bodies;
             place = gate_of journal;
             is_text = subst (λ (t : List ℕ). IsText (map_head held.k m.n held.unit) held.bodies (gate_of journal) t)
-                (sym (subst (λ (t : ℕ). text_in_use (image t) ≡ text) own (held.holds.durable image said now))) held.holds.is_text;
+                (sym (subst (λ (t : ℕ). text_in_use t (image t) ≡ text) own (held.holds.durable image said now))) held.holds.is_text;
             gives = held.gives;
           });
         };
@@ -143,16 +143,15 @@ module _ {R : Type 0} (clock_of : R → ℕ) (images_of : R → ℕ → Image �
 -- the making of a text with a map's first record is the making of the map
 pub make_moments : {R : Type 0} (clock_of : R → ℕ) (images_of : R → ℕ → Image → List ℕ → Type 0) (reads : ℕ → Option (List ℕ)) (old new : R) (p own : Plain) (k n unit : ℕ) (head body : List ℕ)
     → IsWord unit → head ≡ map_head k n unit → profile_of_bytes (canonical_lines p k n) ≡ Ok own → IsMapOf k unit (body ∷ []) (new_map own n)
-    → During clock_of images_of old new (InSlot (images_of old (clock_of old)) 16 (Makes reads head body))
+    → During clock_of images_of old new (InSlot (images_of old (clock_of old)) 16 (Makes 16 reads head body))
     → During clock_of images_of old new (InSlot (images_of old (clock_of old)) 16 (MakesMap reads p k n))
 make_moments {R} clock_of images_of reads old new p own k n unit head body word is read gives run =
-    weaker clock_of images_of old new (InSlot (images_of old (clock_of old)) 16 (Makes reads head body)) (InSlot (images_of old (clock_of old)) 16 (MakesMap reads p k n)) run
+    weaker clock_of images_of old new (InSlot (images_of old (clock_of old)) 16 (Makes 16 reads head body)) (InSlot (images_of old (clock_of old)) 16 (MakesMap reads p k n)) run
     (λ image said from. record {
       source = from.source;
       was = from.was;
       others = from.others;
       stepped = record {
-        others = from.stepped.others;
         texts = λ text told.
             ⊎_elim (λ same. inl same) (λ more. inr (⊎_elim (λ none. inl none) (λ text_is. inr (
               new_map own n,
@@ -164,7 +163,7 @@ make_moments {R} clock_of images_of reads old new p own k n unit head body word 
                   word = word;
                   bodies = body ∷ [];
                   place = next_gate 24 body;
-                  is_text = subst (λ (h : List ℕ). IsText h (body ∷ []) (next_gate 24 body) (text_in_use (image 16))) is text_is;
+                  is_text = subst (λ (h : List ℕ). IsText h (body ∷ []) (next_gate 24 body) (text_in_use 16 (image 16))) is text_is;
                   gives = gives;
                 },
               ),

@@ -9,7 +9,7 @@ use Rattle.ec_code.specs.Refusals.{IsAccepted, IsCodeOf}
 use Rattle.ec_code.specs.Shapes.{HasShape}
 use Rattle.ec_words.specs.Intervals.{Interval, with_last_alive}
 use Rattle.plugin_reg.specs.Canonical.{canonical_lines}
-use Rattle.shard_model.specs.StepBytes.{IsCounted, IsWord}
+use Rattle.ec_words.specs.Readers.{IsCounted, IsWord}
 use Rattle.slot_journal.specs.Header.{head_of, open_gate}
 use Rattle.slot_journal.specs.declared.header.Owner.TheVariants.{Map}
 use Rattle.slot_journal.specs.InUse.{Areas, text_in_use}
@@ -155,7 +155,7 @@ pub record IsMapText (text : List ℕ) (m : PoolImage) : Type 0 where
 
 -- the map of a slot, by its text in use
 abbrev pub HasMap : Areas → PoolImage → Type 0
-HasMap areas m = IsMapText (text_in_use areas) m
+HasMap areas m = IsMapText (text_in_use map_slot areas) m
 
 -- there is no pool: the slot has no text in use, or one that is shorter than a header
 abbrev pub IsNoPool : List ℕ → Type 0

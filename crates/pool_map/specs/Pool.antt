@@ -6,12 +6,11 @@ use Rattle.ec_code.specs.JsonProfiles.{profile_of_bytes}
 use Rattle.plugin_reg.specs.Canonical.{canonical_lines}
 use Rattle.ec_words.specs.Intervals.{Interval}
 use Rattle.rig_disk.specs.Disk.{Image}
-use Rattle.shard_model.specs.StepBytes.{IsWord}
+use Rattle.ec_words.specs.Readers.{IsWord}
 use Rattle.slot_journal.specs.InUse.{Areas, text_in_use, told_text}
-use Rattle.slot_journal.specs.Text.{IsSomeText}
 use Rattle.slot_journal.specs.Journal.{Holds, area_of, room_of}
 use Rattle.slot_journal.specs.declared.journal.Journal.{Journal}
-use Rattle.pool_map.specs.Maps.{PoolImage, last_epoch, epoch_limit, story_of, story_after, with_story, map_head, IsMapOf, HasMap}
+use Rattle.pool_map.specs.Maps.{PoolImage, map_slot, last_epoch, epoch_limit, story_of, story_after, with_story, map_head, IsMapOf, IsNoPool, HasMap}
 use Rattle.pool_map.specs.Meanings.{image_of}
 use Rattle.pool_map.specs.Steps.{MapStep}
 use Rattle.pool_map.specs.declared.map.PoolMap.{PoolMap}
@@ -48,6 +47,12 @@ pub record Steps (reads : ℕ → ℕ → Option (List ℕ)) (images : Image →
 abbrev pub has_begun : PoolMap → Bool
 has_begun map = map.began
 
+-- a call wrote nothing: the rig, the map's journal and whether an interval was begun are as before
+pub record IsUntouched {R : Type 0} (old new : R) (before after : PoolMap) : Type 0 where
+  pub rig : new ≡ old
+  pub journal : journal_of after ≡ journal_of before
+  pub began : has_begun after ≡ has_begun before
+
 -- no further interval may begin: its epoch would reach the limit, or its text has too little room
 abbrev pub IsWorn : PoolMap → Type 0
 IsWorn map = (epoch_limit ≤ last_epoch map.story.intervals + 1) ⊎ (room_of map.journal < 2 ^ 27)
@@ -70,10 +75,9 @@ pub record IsNewMap (m : PoolImage) (p : Profile) (k n : ℕ) : Type 0 where
   pub read : profile_of_bytes (canonical_lines p k n) ≡ Ok own
   pub is : m ≡ new_map own n
 
--- the making of a map at each of its instants: one area alone changes, and the slot has in use the text that it had, no
--- text of the grammar, or that of a new pool's map
+-- the making of a map at each of its instants: the slot has in use the text that it had, one that is no pool's, or that of a
+-- new pool's map
 pub record MakesMap (reads : ℕ → Option (List ℕ)) (p : Profile) (k n : ℕ) (before after : Areas) : Type 0 where
-  pub others : (a : ℕ) → (a ≡ 0 → ⊥) → after a ≡ before a
-  pub texts : (text : List ℕ) → told_text reads ≡ Some text
-      → (text_in_use after ≡ text_in_use before)
-      ⊎ ((IsSomeText (text_in_use after) → ⊥) ⊎ ((m : PoolImage) × (IsNewMap m p k n × HasMap after m)))
+  pub texts : (text : List ℕ) → told_text map_slot reads ≡ Some text
+      → (text_in_use map_slot after ≡ text_in_use map_slot before)
+      ⊎ (IsNoPool (text_in_use map_slot after) ⊎ ((m : PoolImage) × (IsNewMap m p k n × HasMap after m)))

@@ -1,7 +1,7 @@
 -- How a map's steps are read off bytes, from the front. Source: this project.
 use Rattle.std.specs.Prelude.{ℕ, ◌+◌, ◌*◌, ◌==◌, if◌then◌else◌, None}
 use Rattle.ec_model.specs.Versions.{Version}
-use Rattle.shard_model.specs.StepReading.{Reader, and_then, mapped, both, read_byte, read_u32, read_counted, read_version}
+use Rattle.ec_words.specs.Readers.{Reader, and_then, mapped, both, read_byte, read_u32, read_counted, read_version}
 use Rattle.pool_map.specs.Steps.{MapStep, Profile, Begin, Alive, Mark}
 
 abbrev pub mask_from : ℕ × ℕ → ℕ

@@ -3,7 +3,7 @@ use Rattle.std.specs.Prelude.{◌<◌, ◌^◌, ℕ, List, [], ◌∷◌, ◌++�
 use Rattle.std.specs.List.{flat_map}
 use Rattle.std.specs.Int.{bytes_high_first}
 use Rattle.ec_model.specs.Versions.{Version}
-use Rattle.shard_model.specs.StepBytes.{version_bytes, counted_bytes, IsWord, IsCounted, HasWords}
+use Rattle.ec_words.specs.Readers.{version_bytes, counted_bytes, IsWord, IsCounted, HasWords}
 
 -- the canonical lines of the pool's profile; an interval begins, with the slots that are up; it goes alive, with the slots that
 -- joined it and the version that it begins with; an operator marks a slot as down (1) or takes the mark away (0)

@@ -2,7 +2,7 @@
 ghost use Rattle.std.specs.Prelude.{◌≡◌, ◌≢◌, ◌⊎◌, ◌≤◌, ◌<◌, ◌++◌, ◌∷◌, ℕ, List, IfOk, IfErr, Err, length, slice_index_or};
 ghost use Rattle.ec_code.specs.Profiles.{name_of};
 ghost use Rattle.ec_code.specs.Refusals.{IsCodeOf};
-ghost use Rattle.shard_model.specs.StepBytes.{IsCounted};
+ghost use Rattle.ec_words.specs.Readers.{IsCounted};
 ghost use Rattle.pool_map.specs.Maps.{PoolImage, Story as Meant, LeadAll, new_story, IsMapOf};
 ghost use Rattle.pool_map.specs.Meanings.{meant, image_of};
 ghost use Rattle.pool_map.specs.Steps.{step_bytes};

@@ -4,8 +4,8 @@ ghost use Rattle.ec_code.specs.Profiles.{name_of};
 ghost use Rattle.ec_code.specs.Refusals.{IsCodeOf};
 ghost use Rattle.rig_disk.specs.During.{Only};
 ghost use Rattle.slot_journal.specs.InUse.{told_text};
-ghost use Rattle.slot_journal.specs.Journal.{IsSettledWhereTold, is_spent};
-ghost use Rattle.slot_journal.specs.Reading.{OnlyReads};
+ghost use Rattle.slot_journal.specs.Journal.{IsSettledWhereTold, HaveInUse, is_spent};
+ghost use Rattle.slot_journal.specs.Reading.{OnlyReadsArea};
 ghost use Rattle.pool_map.specs.Faults.{HasMapCause};
 ghost use Rattle.pool_map.specs.Maps.{PoolImage, IsNoPool, IsMapText};
 ghost use Rattle.pool_map.specs.Pool.{journal_of, map_of, HoldsMap};
@@ -30,18 +30,20 @@ impl PoolMap {
         codes: &mut [Box<dyn Code>],
     ) -> Result<(PoolMap, usize), MapFault>
         requires { (q : _) → (i : ℕ) × (i < length codes.old) × ((d : _) → plugin_name (slice_index_or codes.old i d) ≡ name_of q) }
-        ensures ok { IfOk result (λ read. (text : List ℕ) → told_text (R.reads rig.old 16) ≡ Some text
+        ensures ok { IfOk result (λ read. (text : List ℕ) → told_text 16 (R.reads rig.old 16) ≡ Some text
             → HoldsMap (R.reads rig.new) (R.images rig.new (R.clock rig.new)) (journal_of read.0) (map_of read.0) text) }
         ensures settled { IfOk result (λ read.
             IsSettledWhereTold (R.reads rig.new) (R.images rig.new (R.clock rig.new)) (journal_of read.0)) }
         ensures unspent { IfOk result (λ read. is_spent (journal_of read.0) ≡ false) }
-        ensures bad_map { result ≡ Err MapFault.BadMap → (text : List ℕ) → told_text (R.reads rig.old 16) ≡ Some text
+        ensures bad_map { result ≡ Err MapFault.BadMap → (text : List ℕ) → told_text 16 (R.reads rig.old 16) ≡ Some text
             → (24 ≤ length text) × ((m : PoolImage) → IsMapText text m → ⊥) }
+        ensures bad_durable { result ≡ Err MapFault.BadMap → (text : List ℕ) → told_text 16 (R.reads rig.old 16) ≡ Some text
+            → HaveInUse (R.images rig.new (R.clock rig.new)) 16 text }
         ensures no_pool { result ≡ Err MapFault.NoPool → R.is_here rig.old 16 → (text : List ℕ)
-            → told_text (R.reads rig.old 16) ≡ Some text → IsNoPool text }
+            → told_text 16 (R.reads rig.old 16) ≡ Some text → IsNoPool text }
         ensures nowhere { (R.is_here rig.old 16 → ⊥) → result ≡ Err MapFault.NoPool }
-        ensures long { IfOk result (λ read. (text : List ℕ) → told_text (R.reads rig.old 16) ≡ Some text → 24 ≤ length text) }
-        ensures short { R.is_here rig.old 16 → (text : List ℕ) → told_text (R.reads rig.old 16) ≡ Some text → IsNoPool text
+        ensures long { IfOk result (λ read. (text : List ℕ) → told_text 16 (R.reads rig.old 16) ≡ Some text → 24 ≤ length text) }
+        ensures short { R.is_here rig.old 16 → (text : List ℕ) → told_text 16 (R.reads rig.old 16) ≡ Some text → IsNoPool text
             → (result ≡ Err MapFault.NoPool) ⊎ (result ≡ Err MapFault.Failed) }
         ensures plain { IfErr result (λ fault. (fault ≡ MapFault.Worn) → ⊥) }
 
@@ -56,7 +58,7 @@ impl PoolMap {
         ensures boxes { length codes.new ≡ length codes.old }
         ensures names { (j : ℕ) (d : _) → plugin_name (slice_index_or codes.new j d) ≡ plugin_name (slice_index_or codes.old j d) }
         ensures only_if_fault { HasMapCause (R.faults rig.old 16) (R.faults rig.new 16) result }
-        ensures kept { OnlyReads R.is_here R.reads R.said R.clock R.images R.faults R.syncs R.bytes_written R.bytes_read
+        ensures kept { OnlyReadsArea R.is_here R.reads R.said R.clock R.images R.faults R.syncs R.bytes_written R.bytes_read
             16 0 2 rig.old rig.new }
     {
         texts_have_one_reading();
@@ -84,15 +86,15 @@ impl PoolMap {
 
     /// Whether there is a pool. All of the map's text is on the disk then.
     pub fn there<R: Rig>(rig: &mut R) -> Result<bool, MapFault>
-        ensures yes { IfOk result (λ is. IsTrue is → (text : List ℕ) → told_text (R.reads rig.old 16) ≡ Some text → 24 ≤ length text) }
+        ensures yes { IfOk result (λ is. IsTrue is → (text : List ℕ) → told_text 16 (R.reads rig.old 16) ≡ Some text → 24 ≤ length text) }
         ensures no_pool { IfOk result (λ is. is ≡ false → R.is_here rig.old 16 → (text : List ℕ)
-            → told_text (R.reads rig.old 16) ≡ Some text → IsNoPool text) }
+            → told_text 16 (R.reads rig.old 16) ≡ Some text → IsNoPool text) }
         ensures nowhere { (R.is_here rig.old 16 → ⊥) → result ≡ Ok false }
         ensures durable { OnOk result (R.is_here rig.old 16 → (there : List ℕ) → R.reads rig.new 16 0 ≡ Some there
             → Only R.clock R.images rig.new 16 0 there) }
         ensures faults { IfErr result (λ fault. fault ≡ MapFault.Failed) }
         ensures only_if_fault { HasMapCause (R.faults rig.old 16) (R.faults rig.new 16) result }
-        ensures kept { OnlyReads R.is_here R.reads R.said R.clock R.images R.faults R.syncs R.bytes_written R.bytes_read
+        ensures kept { OnlyReadsArea R.is_here R.reads R.said R.clock R.images R.faults R.syncs R.bytes_written R.bytes_read
             16 0 1 rig.old rig.new }
     {
         if !rig.here(MAP_SLOT) {
@@ -102,6 +104,3 @@ impl PoolMap {
         Ok(read_front(rig, &mut front)?)
     }
 }
-
-#[cfg(test)]
-mod tests;

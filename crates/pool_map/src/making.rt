@@ -1,5 +1,5 @@
 //! The map of a new pool.
-ghost use Rattle.std.specs.Prelude.{◌≡◌, ◌⊎◌, ◌≤◌, ◌∷◌, [], ℕ, List, Some, IfOk, IfErr, false};
+ghost use Rattle.std.specs.Prelude.{◌≡◌, ◌⊎◌, ◌≤◌, ◌∷◌, [], ℕ, List, Some, IfOk, IfErr, Err, false};
 ghost use Rattle.ec_model.specs.Codes.{CodeRows};
 ghost use Rattle.ec_code.specs.Refusals.{IsAccepted, IsCodeOf};
 ghost use Rattle.ec_code.specs.Shapes.{HasShape};
@@ -8,6 +8,7 @@ ghost use Rattle.rig_disk.specs.During.{During};
 ghost use Rattle.rig_disk.specs.Frame.{Spends, KeepsOthers};
 ghost use Rattle.slot_journal.specs.InUse.{told_text};
 ghost use Rattle.slot_journal.specs.Journal.{IsSettledWhereTold, InSlot, is_spent};
+ghost use Rattle.slot_journal.specs.Limits.{make_syncs, make_reads};
 ghost use Rattle.pool_map.specs.Faults.{HasMapCause};
 ghost use Rattle.pool_map.specs.Pool.{journal_of, map_of, HoldsMap, IsNewMap, MakesMap};
 
@@ -54,17 +55,18 @@ impl PoolMap {
         requires writable { IsWritable profile.now }
         requires shape { (code : CodeRows) × IsCodeOf profile.now code × HasShape code shape.k shape.n shape.lead }
 
-        ensures ok { IfOk result (λ map. (text : List ℕ) → told_text (R.reads rig.old 16) ≡ Some text
+        ensures ok { IfOk result (λ map. (text : List ℕ) → told_text 16 (R.reads rig.old 16) ≡ Some text
             → (after : List ℕ) × HoldsMap (R.reads rig.new) (R.images rig.new (R.clock rig.new)) (journal_of map) (map_of map) after) }
         ensures new { IfOk result (λ map. IsNewMap (map_of map) profile.now shape.k shape.n) }
         ensures settled { IfOk result (λ map.
             IsSettledWhereTold (R.reads rig.new) (R.images rig.new (R.clock rig.new)) (journal_of map)) }
         ensures unspent { IfOk result (λ map. is_spent (journal_of map) ≡ false) }
         ensures faults { IfErr result (λ fault. (fault ≡ MapFault.Failed) ⊎ (fault ≡ MapFault.NoMemory)) }
+        ensures refused { result ≡ Err MapFault.NoMemory → rig.new ≡ rig.old }
         ensures only_if_fault { HasMapCause (R.faults rig.old 16) (R.faults rig.new 16) result }
         ensures any_moment { During R.clock R.images rig.old rig.new (InSlot (R.images rig.old (R.clock rig.old)) 16
             (MakesMap (R.reads rig.old 16) profile.now shape.k shape.n)) }
-        ensures counts { Spends R.syncs R.bytes_written R.bytes_read 16 4 4062 1 rig.old rig.new }
+        ensures counts { Spends R.syncs R.bytes_written R.bytes_read 16 make_syncs 4062 make_reads rig.old rig.new }
         ensures kept { KeepsOthers R.is_here R.reads R.said R.faults R.syncs R.bytes_written R.bytes_read
             16 0 rig.old rig.new }
     {
@@ -88,6 +90,3 @@ impl PoolMap {
         })
     }
 }
-
-#[cfg(test)]
-mod tests;

@@ -1,6 +1,6 @@
 //! Reading a step off the front of a text.
 ghost use Rattle.std.specs.Prelude.{◌≡◌, ◌⊎◌, IfOk, IfErr, Some, None, Err};
-ghost use Rattle.shard_model.specs.StepReading.{read_byte, read_u32, read_u64, read_list, read_counted, read_version};
+ghost use Rattle.ec_words.specs.Readers.{read_byte, read_u32, read_u64, read_list, read_counted, read_version};
 ghost use Rattle.pool_map.specs.StepReading.{read_mask, read_lines, read_begin, read_alive, read_mark, read_kind, read_step};
 ghost use Rattle.pool_map.specs.Meanings.{step_of};
 

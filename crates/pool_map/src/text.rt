@@ -1,11 +1,11 @@
 //! The text of a map, as it is read from its slot.
 ghost use Rattle.std.specs.Prelude.{◌≡◌, ◌≢◌, ◌⊎◌, ◌≤◌, ◌<◌, ◌∷◌, ℕ, List, length, take, get_or, Some, Err, IfOk, IfErr, IsTrue, false};
 ghost use Rattle.rig_disk.specs.During.{During};
-ghost use Rattle.shard_model.specs.StepBytes.{IsWord};
+ghost use Rattle.ec_words.specs.Readers.{IsWord};
 ghost use Rattle.slot_journal.specs.Header.{open_gate};
 ghost use Rattle.slot_journal.specs.InUse.{told_text};
-ghost use Rattle.slot_journal.specs.Journal.{Holds, IsSettledWhereTold, IsFresh};
-ghost use Rattle.slot_journal.specs.Reading.{OnlyReads};
+ghost use Rattle.slot_journal.specs.Journal.{Holds, IsSettledWhereTold, IsFresh, HaveInUse};
+ghost use Rattle.slot_journal.specs.Reading.{OnlyReadsArea};
 ghost use Rattle.slot_journal.specs.Text.{IsText};
 ghost use Rattle.pool_map.specs.Faults.{HasMapCause};
 ghost use Rattle.pool_map.specs.Maps.{map_head, IsNoPool};
@@ -65,23 +65,25 @@ fn numbers_of(front: &[u8; 24]) -> Numbers
 /// Reads the map's text in use.
 pub(crate) fn load_text<R: Rig>(alloc: Global, rig: &mut R) -> Result<MapText, MapFault>
     requires here { R.is_here rig.old 16 }
-    ensures ok { IfOk result (λ read. (text : List ℕ) → told_text (R.reads rig.old 16) ≡ Some text
+    ensures ok { IfOk result (λ read. (text : List ℕ) → told_text 16 (R.reads rig.old 16) ≡ Some text
         → Holds (R.reads rig.new) (R.images rig.new (R.clock rig.new)) read.journal
         (map_head read.numbers.k read.numbers.n read.numbers.unit) read.bodies text) }
-    ensures numbers { IfOk result (λ read. (text : List ℕ) → told_text (R.reads rig.old 16) ≡ Some text
+    ensures numbers { IfOk result (λ read. (text : List ℕ) → told_text 16 (R.reads rig.old 16) ≡ Some text
         → (k n unit : ℕ) (bodies : List (List ℕ)) (place : ℕ) → IsWord unit → IsText (map_head k n unit) bodies place text
         → (k ≡ read.numbers.k) × ((n ≡ read.numbers.n) × (unit ≡ read.numbers.unit))) }
-    ensures long { IfOk result (λ read. (text : List ℕ) → told_text (R.reads rig.old 16) ≡ Some text → 24 ≤ length text) }
+    ensures long { IfOk result (λ read. (text : List ℕ) → told_text 16 (R.reads rig.old 16) ≡ Some text → 24 ≤ length text) }
     ensures settled { IfOk result (λ read.
         IsSettledWhereTold (R.reads rig.new) (R.images rig.new (R.clock rig.new)) read.journal) }
     ensures fresh { IfOk result (λ read. IsFresh read.journal 16) }
-    ensures bad { result ≡ Err MapFault.BadMap → (text : List ℕ) → told_text (R.reads rig.old 16) ≡ Some text → (24 ≤ length text)
+    ensures bad { result ≡ Err MapFault.BadMap → (text : List ℕ) → told_text 16 (R.reads rig.old 16) ≡ Some text → (24 ≤ length text)
         × ((k n unit : ℕ) (bodies : List (List ℕ)) (place : ℕ) → IsWord unit → IsText (map_head k n unit) bodies place text → ⊥) }
-    ensures no_pool { result ≡ Err MapFault.NoPool → (text : List ℕ) → told_text (R.reads rig.old 16) ≡ Some text → IsNoPool text }
-    ensures no_memory { result ≡ Err MapFault.NoMemory → (text : List ℕ) → told_text (R.reads rig.old 16) ≡ Some text → 24 ≤ length text }
+    ensures bad_durable { result ≡ Err MapFault.BadMap → (text : List ℕ) → told_text 16 (R.reads rig.old 16) ≡ Some text
+        → HaveInUse (R.images rig.new (R.clock rig.new)) 16 text }
+    ensures no_pool { result ≡ Err MapFault.NoPool → (text : List ℕ) → told_text 16 (R.reads rig.old 16) ≡ Some text → IsNoPool text }
+    ensures no_memory { result ≡ Err MapFault.NoMemory → (text : List ℕ) → told_text 16 (R.reads rig.old 16) ≡ Some text → 24 ≤ length text }
     ensures plain { IfErr result (λ fault. (fault ≡ MapFault.Worn) → ⊥) }
     ensures only_if_fault { HasMapCause (R.faults rig.old 16) (R.faults rig.new 16) result }
-    ensures kept { OnlyReads R.is_here R.reads R.said R.clock R.images R.faults R.syncs R.bytes_written R.bytes_read
+    ensures kept { OnlyReadsArea R.is_here R.reads R.said R.clock R.images R.faults R.syncs R.bytes_written R.bytes_read
         16 0 2 rig.old rig.new }
 {
     bad_texts_have_one_place();

@@ -1,13 +1,14 @@
 //! What is asked of a pool's map, and what is written to it.
 ghost use Rattle.std.specs.Prelude.{◌≡◌, ◌≤◌, ◌<◌, ◌⊎◌, ◌↔◌, ◌+◌, ◌^◌, ◌++◌, ◌∷◌, [], ℕ, List, true, false, IfOk, IfErr, IsTrue, OnOk, OnErr, Err, if◌then◌else◌};
 ghost use Rattle.ec_model.specs.Codes.{LiesBelow};
-ghost use Rattle.auth_log.specs.Choice.{JoinedLieBelow};
+ghost use Rattle.ec_words.specs.Intervals.{JoinedLieBelow};
 ghost use Rattle.rig_disk.specs.During.{During};
 ghost use Rattle.rig_disk.specs.Frame.{Spends, KeepsOthers};
 ghost use Rattle.slot_journal.specs.Journal.{IsSettledWhereTold, InSlot, is_spent, room_of};
+ghost use Rattle.slot_journal.specs.Limits.{commit_syncs};
 ghost use Rattle.pool_map.specs.Faults.{HasMapCause};
 ghost use Rattle.pool_map.specs.Maps.{fits, story_of, last_epoch, epoch_limit};
-ghost use Rattle.pool_map.specs.Pool.{journal_of, map_of, has_begun, HoldsMap, map_after, Steps, IsWorn};
+ghost use Rattle.pool_map.specs.Pool.{journal_of, map_of, has_begun, HoldsMap, map_after, Steps, IsWorn, IsUntouched};
 ghost use Rattle.pool_map.specs.Sound.{IsSound};
 ghost use Rattle.pool_map.specs.Steps as steps;
 ghost use Rattle.ec_words.specs.Intervals.{Interval as Meant};
@@ -66,11 +67,12 @@ impl PoolMap {
             (IsSettledWhereTold (R.reads rig.new) (R.images rig.new (R.clock rig.new)) (journal_of self.new)) }
         ensures unspent { OnOk result (is_spent (journal_of self.new) ≡ false) }
         ensures unchanged { OnErr result (map_of self.new ≡ map_of self.old) }
+        ensures refused { IfErr result (λ fault. (fault ≡ MapFault.Failed) ⊎ IsUntouched rig.old rig.new self.old self.new) }
         ensures only_if_fault { HasMapCause (R.faults rig.old 16) (R.faults rig.new 16) result }
         ensures any_moment { During R.clock R.images rig.old rig.new (InSlot (R.images rig.old (R.clock rig.old)) 16
             (Steps (R.reads rig.old) (R.images rig.old (R.clock rig.old)) (journal_of self.old) (map_of self.old)
             (steps.Begin (last_epoch (map_of self.old).intervals + 1) up.0))) }
-        ensures counts { Spends R.syncs R.bytes_written R.bytes_read 16 2 13 0 rig.old rig.new }
+        ensures counts { Spends R.syncs R.bytes_written R.bytes_read 16 commit_syncs 13 0 rig.old rig.new }
         ensures kept { KeepsOthers R.is_here R.reads R.said R.faults R.syncs R.bytes_written R.bytes_read
             16 0 rig.old rig.new }
     {
@@ -125,7 +127,7 @@ impl PoolMap {
         ensures any_moment { During R.clock R.images rig.old rig.new (InSlot (R.images rig.old (R.clock rig.old)) 16
             (Steps (R.reads rig.old) (R.images rig.old (R.clock rig.old)) (journal_of self.old) (map_of self.old)
             (steps.Alive (last_epoch (map_of self.old).intervals) joined.0 base))) }
-        ensures counts { Spends R.syncs R.bytes_written R.bytes_read 16 2 25 0 rig.old rig.new }
+        ensures counts { Spends R.syncs R.bytes_written R.bytes_read 16 commit_syncs 25 0 rig.old rig.new }
         ensures kept { KeepsOthers R.is_here R.reads R.said R.faults R.syncs R.bytes_written R.bytes_read
             16 0 rig.old rig.new }
     {
@@ -157,11 +159,12 @@ impl PoolMap {
             (IsSettledWhereTold (R.reads rig.new) (R.images rig.new (R.clock rig.new)) (journal_of self.new)) }
         ensures unspent { OnOk result (is_spent (journal_of self.new) ≡ false) }
         ensures unchanged { OnErr result (map_of self.new ≡ map_of self.old) }
+        ensures refused { IfErr result (λ fault. (fault ≡ MapFault.Failed) ⊎ IsUntouched rig.old rig.new self.old self.new) }
         ensures only_if_fault { HasMapCause (R.faults rig.old 16) (R.faults rig.new 16) result }
         ensures any_moment { During R.clock R.images rig.old rig.new (InSlot (R.images rig.old (R.clock rig.old)) 16
             (Steps (R.reads rig.old) (R.images rig.old (R.clock rig.old)) (journal_of self.old) (map_of self.old)
             (steps.Mark slot (if down then 1 else 0)))) }
-        ensures counts { Spends R.syncs R.bytes_written R.bytes_read 16 2 9 0 rig.old rig.new }
+        ensures counts { Spends R.syncs R.bytes_written R.bytes_read 16 commit_syncs 9 0 rig.old rig.new }
         ensures kept { KeepsOthers R.is_here R.reads R.said R.faults R.syncs R.bytes_written R.bytes_read
             16 0 rig.old rig.new }
     {
@@ -189,6 +192,3 @@ fn take_back(intervals: &mut Intervals)
 {
     intervals.pop();
 }
-
-#[cfg(test)]
-mod tests;

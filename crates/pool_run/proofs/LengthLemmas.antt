@@ -7,9 +7,9 @@ use Rattle.std.proofs.lemmas.List.Elements.{All-from_recursion, All-filter}
 use Rattle.ec_model.specs.Objects.{Command, Full, Get}
 use Rattle.ec_words.specs.Fields.{optional_field}
 use Rattle.ec_words.specs.HexText.{SpellsBytes}
-use Rattle.stripe_map.specs.declared.limits.TheConstants.{MAX_OBJECT}
 use Rattle.pool_run.specs.Grammar.{Spells}
 use Rattle.pool_run.specs.Lines.{is_kept, kept_lines, command_of, WritesAtMost}
+use Rattle.pool_run.specs.Stored.{max_object}
 use Rattle.pool_run.specs.Texts.{max_input}
 use Rattle.pool_run.proofs.GrammarLemmas.{read_is_spelled}
 
@@ -26,7 +26,7 @@ field_long : (digits : List ℕ) → length digits ≤ length (optional_field di
 field_long [] = omega arith
 field_long (d ∷ digits) = omega arith
 
-spelled_writes : (text : List ℕ) (command : Command) → Spells text command → length text ≤ max_input → WritesAtMost MAX_OBJECT command
+spelled_writes : (text : List ℕ) (command : Command) → Spells text command → length text ≤ max_input → WritesAtMost max_object command
 spelled_writes text (Get name) s short = tt
 spelled_writes text (Full name bytes) s short =
     let rest = optional_field s.digits in
@@ -34,7 +34,7 @@ spelled_writes text (Full name bytes) s short =
     omega (arith, whole, length-append name rest, field_long s.digits, spelled_bytes s.digits bytes s.spells, short)
 
 -- a line of an input within its limit gives an object within its limit
-pub line_writes : (text : List ℕ) (command : Command) → command_of text ≡ Some command → length text ≤ max_input → WritesAtMost MAX_OBJECT command
+pub line_writes : (text : List ℕ) (command : Command) → command_of text ≡ Some command → length text ≤ max_input → WritesAtMost max_object command
 line_writes text command read short = spelled_writes text command (read_is_spelled text command read) short
 
 more_short : (n : ℕ) (parts : List (List ℕ)) → AllByRecursion (λ part. length part ≤ n) parts → AllByRecursion (λ part. length part ≤ n + 1) parts

@@ -3,6 +3,7 @@ mod KeptLemmas
 mod LengthLemmas
 pub mod LineLemmas
 mod MapLemmas
+mod PieceLemmas
 mod ProfileLemmas
 mod RequestLemmas
 mod RunLemmas

@@ -1,7 +1,7 @@
 -- What the words ask for, where they are known.
 use Rattle.std.proofs.Common.{◌≡◌, ℕ, List, [], ◌∷◌, ◌≤◌, length, Option, Some, inl, inr, ap, sym, ◌∙◌, arith}
 use Rattle.std.specs.Prelude.{codes}
-use Rattle.pool_run.specs.Profiles.{AsksToShow, AsksFor}
+use Rattle.pool_run.specs.Profiles.{AsksToShow, AsksFor, HasFault, NeedsNoInput}
 use Rattle.pool_run.specs.Texts.{max_input}
 use Rattle.pool_run.specs.Words.{Words, AskTry, AskProfile, AreWrong, whole_input}
 
@@ -42,3 +42,17 @@ pub input_for : (words : Words) (left : Option (List ℕ)) (b : List ℕ) → As
 input_for words left b ask (inl is) = absurd (not_both words b whole_input is ask)
 input_for words left b ask (inr (inl is)) = absurd (is.1 (same_profile words b whole_input is.0 ask))
 input_for words left b ask (inr (inr is)) = (is.1, is.2)
+
+-- what the words ask for, where their profile needs no input
+
+pub wrong_needs : (words : Words) (a : List ℕ) → AreWrong words → NeedsNoInput words a → ⊥
+wrong_needs words a wrong (inl is) = (wrong a).1 is.0
+wrong_needs words a wrong (inr is) = (wrong a).0 is.0
+
+pub try_needs : (words : Words) (a b : List ℕ) → AskTry words a → NeedsNoInput words b → (a ≡ b) × HasFault b
+try_needs words a b ask (inl is) = absurd (not_both words a b ask is.0)
+try_needs words a b ask (inr is) = (same_try words a b ask is.0, is.1)
+
+pub input_needs : (words : Words) (b : List ℕ) → AskProfile words whole_input → NeedsNoInput words b → ⊥
+input_needs words b ask (inl is) = is.1 (same_profile words b whole_input is.0 ask)
+input_needs words b ask (inr is) = not_both words b whole_input is.0 ask

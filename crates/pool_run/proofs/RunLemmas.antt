@@ -1,5 +1,5 @@
 -- A script is answered line by line.
-use Rattle.std.proofs.Common.{◌≡◌, ◌⊎◌, ℕ, suc, ◌+◌, ◌<◌, ◌≤◌, min, Bool, true, false, cond, ◌&&◌, List, [], ◌∷◌, ◌++◌, length, map, take, drop, get_or, refl, sym, ap, subst, ◌∙◌, Option, Bor, append-nil, arith, inl, inr, drop-cons}
+use Rattle.std.proofs.Common.{◌≡◌, ◌⊎◌, ℕ, suc, ◌+◌, ◌<◌, ◌≤◌, min, Bool, true, false, cond, ◌&&◌, List, [], ◌∷◌, ◌++◌, length, map, take, drop, get_or, refl, sym, ap, subst, ◌∙◌, Option, Some, None, Bor, append-nil, arith, inl, inr, drop-cons}
 use Rattle.std.specs.List.{list_all}
 use Rattle.std.specs.FinMap as finite
 use Rattle.std.specs.Io.KnownBytes.{Appends}
@@ -12,8 +12,8 @@ use Rattle.ec_model.specs.Objects.{Objects, Command, Reply, apply_line, apply_li
 use Rattle.ec_model.specs.Codes.{CodeRows}
 use Rattle.rig_disk.specs.Said.{SaysFront}
 use Rattle.rig_disk.proofs.CallerLemmas.{Appends-none, Appends-more}
-use Rattle.pool_run.specs.Lines.{command_of, commands_of, kept_lines}
-use Rattle.pool_run.specs.Replies.{replies_to, replies_text, reply_text, is_done}
+use Rattle.pool_run.specs.Lines.{command_of, commands_of, kept_lines, line_of_command}
+use Rattle.pool_run.specs.Replies.{Answer, Replied, Serves, answer_text, answer_to_line, answers_text, is_done, is_good, objects_after_line, replies_in, replies_text, replies_to, reply_text, served_line}
 use Rattle.pool_run.specs.Script.{IsRun}
 use Rattle.pool_run.specs.Stored.{StoredObjects, AreStored}
 use Rattle.pool_run.specs.Texts.{OneOf}
@@ -35,14 +35,50 @@ replies_from_none lines = replies_to_lines finite.empty (commands_of lines)
 abbrev objects_after : List (List ℕ) → Objects
 objects_after lines = apply_lines finite.empty (commands_of lines)
 
+-- ---- objects that always serve answer as the map does
+
+answer_of_served : (objects : Objects) (command : Option Command) → answer_to_line Serves objects (line_of_command command) ≡ Replied (reply_to_line objects command)
+answer_of_served objects (Some command) = refl
+answer_of_served objects None = refl
+
+objects_of_served : (objects : Objects) (command : Option Command) → objects_after_line Serves objects (line_of_command command) ≡ apply_line objects command
+objects_of_served objects (Some command) = refl
+objects_of_served objects None = refl
+
+answers_of_served : (objects : Objects) (lines : List (List ℕ)) → replies_in (map served_line lines) objects ≡ map Replied (replies_to_lines objects (commands_of lines))
+answers_of_served objects [] = refl
+answers_of_served objects (line ∷ lines) =
+    (λ i. answer_of_served objects (command_of line) i ∷ replies_in (map served_line lines) (objects_of_served objects (command_of line) i))
+    ∙ ap (λ rs. Replied (reply_to_line objects (command_of line)) ∷ rs) (answers_of_served (apply_line objects (command_of line)) lines)
+
+text_of_replied : (rs : List Reply) → answers_text (map Replied rs) ≡ replies_text rs
+text_of_replied [] = refl
+text_of_replied (r ∷ rs) = ap (λ t. reply_text r ++ t) (text_of_replied rs)
+
+good_of_replied : (rs : List Reply) → list_all is_good (map Replied rs) ≡ list_all is_done rs
+good_of_replied [] = refl
+good_of_replied (r ∷ rs) = ap (λ b. is_done r && b) (good_of_replied rs)
+
+-- the answers to a script by the lines that count
+text_of_script : (script : List ℕ) (lines : List (List ℕ)) → kept_lines script ≡ lines → answers_text (replies_to script) ≡ replies_text (replies_from_none lines)
+text_of_script script lines is =
+    ap answers_text (answers_of_served finite.empty (kept_lines script)) ∙ text_of_replied (replies_from_none (kept_lines script))
+    ∙ ap (λ (ls : List (List ℕ)). replies_text (replies_from_none ls)) is
+
+good_of_script : (script : List ℕ) (lines : List (List ℕ)) → kept_lines script ≡ lines → list_all is_good (replies_to script) ≡ list_all is_done (replies_from_none lines)
+good_of_script script lines is =
+    ap (list_all is_good) (answers_of_served finite.empty (kept_lines script)) ∙ good_of_replied (replies_from_none (kept_lines script))
+    ∙ ap (λ (ls : List (List ℕ)). list_all is_done (replies_from_none ls)) is
+
 -- these lines are answered so far: how what they left is kept, whether each reply begins with `ok`, and what was said
 pub record Answered (code : CodeRows) (unit : ℕ) (lines : List (List ℕ)) (stored : StoredObjects) (fine : Bool) (before now : Option (List ℕ)) : Type 0 where
   pub kept : AreStored code unit (objects_after lines) stored
   pub all_done : fine ≡ list_all is_done (replies_from_none lines)
   pub said : Appends before now (replies_text (replies_from_none lines))
 
-pub nothing_answered : (code : CodeRows) (unit : ℕ) (stored : StoredObjects) (now : Option (List ℕ)) → stored ≡ finite.empty → Answered code unit [] stored true now now
-nothing_answered code unit stored now none = record { kept = none_kept code unit stored none; all_done = refl; said = Appends-none now }
+pub nothing_answered : (code : CodeRows) (unit : ℕ) (stored : StoredObjects) (fine : Bool) (now : Option (List ℕ)) → stored ≡ finite.empty → fine ≡ true
+    → Answered code unit [] stored fine now now
+nothing_answered code unit stored fine now none fine_is = record { kept = none_kept code unit stored none; all_done = fine_is; said = Appends-none now }
 
 commands_of-push : (lines : List (List ℕ)) (x : List ℕ) → commands_of (lines ++ x ∷ []) ≡ commands_of lines ++ command_of x ∷ []
 commands_of-push lines x = map-append command_of lines (x ∷ [])
@@ -65,17 +101,17 @@ list_all-push rs r = list_all-append is_done rs (r ∷ []) ∙ ap (λ b. list_al
 abbrev pub OfKept : CodeRows → ℕ → StoredObjects → (Objects → Type 0) → Type 0
 OfKept code unit stored P = (objects : Objects) → AreStored code unit objects stored → P objects
 
-pub one_answered : (code : CodeRows) (unit : ℕ) (lines : List (List ℕ)) (x : List ℕ) (stored next : StoredObjects) (fine one both : Bool) (before now new : Option (List ℕ))
+pub one_answered : (code : CodeRows) (unit : ℕ) (lines : List (List ℕ)) (x : List ℕ) (stored next : StoredObjects) (fine both : Bool) (before now new : Option (List ℕ))
     → Answered code unit lines stored fine before now → OfKept code unit stored (λ objects. AreStored code unit (apply_line objects (command_of x)) next)
-    → OfKept code unit stored (λ objects. one ≡ is_done (reply_to_line objects (command_of x))) → both ≡ (fine && one)
+    → OfKept code unit stored (λ objects. both ≡ (fine && is_done (reply_to_line objects (command_of x))))
     → OfKept code unit stored (λ objects. Appends now new (reply_text (reply_to_line objects (command_of x)))) → Answered code unit (lines ++ x ∷ []) next both before new
-one_answered code unit lines x stored next fine one both before now new a leaves ok and says =
+one_answered code unit lines x stored next fine both before now new a leaves done says =
     let objects = objects_after lines in
     let push : replies_from_none (lines ++ x ∷ []) ≡ replies_from_none lines ++ reply_to_line objects (command_of x) ∷ [] = replies_from_none-append lines (x ∷ []) in
     record {
       kept = subst (λ o. AreStored code unit o next) (sym (objects_after-push lines x)) (leaves objects a.kept);
       all_done =
-          and ∙ (λ i. a.all_done i && ok objects a.kept i)
+          done objects a.kept ∙ ap (λ b. b && is_done (reply_to_line objects (command_of x))) a.all_done
           ∙ sym (ap (list_all is_done) push ∙ list_all-push (replies_from_none lines) (reply_to_line objects (command_of x)));
       said =
           subst (Appends before new) (sym (ap replies_text push ∙ replies_text-push (replies_from_none lines) (reply_to_line objects (command_of x))))
@@ -90,14 +126,14 @@ front_of n xs ys zs =
 -- a line whose reply was said in part
 pub part_answered : (code : CodeRows) (unit : ℕ) (lines more : List (List ℕ)) (x : List ℕ) (stored : StoredObjects) (fine : Bool) (before now new : Option (List ℕ)) (script : List ℕ)
     → Answered code unit lines stored fine before now → kept_lines script ≡ lines ++ x ∷ more
-    → OfKept code unit stored (λ objects. SaysFront now new (reply_text (reply_to_line objects (command_of x)))) → SaysFront before new (replies_text (replies_to script))
+    → OfKept code unit stored (λ objects. SaysFront now new (reply_text (reply_to_line objects (command_of x)))) → SaysFront before new (answers_text (replies_to script))
 part_answered code unit lines more x stored fine before now new script a is says =
     let objects = objects_after lines in
     let part = says objects a.kept in
     let r = reply_to_line objects (command_of x) in
     let rest = replies_text (replies_to_lines (apply_line objects (command_of x)) (commands_of more)) in
-    let whole : replies_text (replies_to script) ≡ replies_text (replies_from_none lines) ++ (reply_text r ++ rest) =
-    ap (λ ls. replies_text (replies_from_none ls)) is
+    let whole : answers_text (replies_to script) ≡ replies_text (replies_from_none lines) ++ (reply_text r ++ rest) =
+    text_of_script script (lines ++ x ∷ more) is
     ∙ ap replies_text (replies_from_none-append lines (x ∷ more))
     ∙ flat_map-append reply_text _ _
     in (
@@ -111,7 +147,7 @@ no_end s h (inr (inl e)) = omega arith
 no_end s h (inr (inr e)) = e
 
 -- the run stopped within a line
-pub stopped : (script : List ℕ) (status : ℕ) (before now : Option (List ℕ)) → 1 < status → SaysFront before now (replies_text (replies_to script)) → IsRun script status before now
+pub stopped : (script : List ℕ) (status : ℕ) (before now : Option (List ℕ)) → 1 < status → SaysFront before now (answers_text (replies_to script)) → IsRun script status before now
 stopped script status before now h f = record {
   front = f;
   whole = λ o. absurd (no_end status h o);
@@ -131,18 +167,14 @@ refused_of false s e z = refl
 pub whole_answered : (code : CodeRows) (unit : ℕ) (lines : List (List ℕ)) (script : List ℕ) (stored : StoredObjects) (fine : Bool) (before now : Option (List ℕ)) (status : ℕ)
     → Answered code unit lines stored fine before now → lines ≡ kept_lines script → status ≡ cond fine 0 1 → IsRun script status before now
 whole_answered code unit lines script stored fine before now status a is e =
-    let said : Appends before now (replies_text (replies_to script)) = subst (λ (ls : List (List ℕ)). Appends before now (replies_text (replies_from_none ls))) is a.said in
-    let done : fine ≡ list_all is_done (replies_to script) = a.all_done ∙ ap (λ ls. list_all is_done (replies_from_none ls)) is in
+    let said : Appends before now (answers_text (replies_to script)) = subst (Appends before now) (sym (text_of_script script lines (sym is))) a.said in
+    let done : fine ≡ list_all is_good (replies_to script) = a.all_done ∙ sym (good_of_script script lines (sym is)) in
     record {
-      front = (length (replies_text (replies_to script)), subst (Appends before now) (sym (take-length (replies_text (replies_to script)))) said);
+      front = (length (answers_text (replies_to script)), subst (Appends before now) (sym (take-length (answers_text (replies_to script)))) said);
       whole = λ _. said;
       all_done = λ z. sym done ∙ done_of fine status e z;
       some_refused = λ z. sym done ∙ refused_of fine status e z;
     }
-
-pub both_done : (fine one both : Bool) → (fine ≡ true) × (both ≡ one) ⊎ (fine ≡ false) × (both ≡ false) → both ≡ (fine && one)
-both_done fine one both (inl p) = p.1 ∙ ap (λ b. b && one) (sym p.0)
-both_done fine one both (inr p) = p.1 ∙ ap (λ b. b && one) (sym p.0)
 
 -- what stands behind references
 abbrev pub shown : List (Bor (List ℕ)) → List (List ℕ)
@@ -159,7 +191,3 @@ shown_at items i d h =
 
 pub shown_all : (items : List (Bor (List ℕ))) (i : ℕ) → length items ≤ i → shown (take i items) ≡ shown items
 shown_all items i h = ap shown (take_all i items h)
-
-pub status_of_done : (fine : Bool) (s : ℕ) → (fine ≡ true) × (s ≡ 0) ⊎ (fine ≡ false) × (s ≡ 1) → s ≡ cond fine 0 1
-status_of_done fine s (inl p) = p.1 ∙ ap (λ b. cond b 0 1) (sym p.0)
-status_of_done fine s (inr p) = p.1 ∙ ap (λ b. cond b 0 1) (sym p.0)

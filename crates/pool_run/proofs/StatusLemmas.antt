@@ -6,8 +6,8 @@ use Rattle.std.specs.Io.KnownBytes.{Appends, Consumes, IsAtEnd}
 use Rattle.std.proofs.lemmas.Bool.{lt-ltb, le-ltb}
 use Rattle.rig_disk.specs.Said.{SaysFront}
 use Rattle.rig_disk.proofs.CallerLemmas.{Appends-none}
-use Rattle.pool_run.specs.Headline.{IsAnswered, SaysInOrder, status_of}
-use Rattle.pool_run.specs.Replies.{replies_to, replies_text, is_done}
+use Rattle.pool_run.specs.Tries.{IsAnswered, SaysInOrder, status_of}
+use Rattle.pool_run.specs.Replies.{replies_to, answers_text, is_good}
 use Rattle.pool_run.specs.Script.{IsRun, ReadsAll, HadMore}
 use Rattle.pool_run.specs.Texts.{OneOf, ComesFor, SaysItsLine, line_of, too_long_line, max_input}
 
@@ -35,11 +35,11 @@ no_line status (inr (inr (inr (inr (inr e))))) = absurd e
 
 -- a front of the replies, and no line
 front_in_order : (script : List ℕ) (status : ℕ) (before now : Option (List ℕ)) → OneOf status (0 ∷ 1 ∷ 8 ∷ 9 ∷ 13 ∷ []) → (count : ℕ)
-    → Appends before now (take count (replies_text (replies_to script))) → (max_input < length script → count ≡ 0) → SaysInOrder script status before now
+    → Appends before now (take count (answers_text (replies_to script))) → (max_input < length script → count ≡ 0) → SaysInOrder script status before now
 front_in_order script status before now one count said none = record {
   count = count;
   line = [];
-  said = subst (Appends before now) (sym (append-nil (take count (replies_text (replies_to script))))) said;
+  said = subst (Appends before now) (sym (append-nil (take count (answers_text (replies_to script))))) said;
   whole_line = λ _. no_line status one;
   cut_line = λ _. (0, refl);
   no_reply = none;
@@ -122,7 +122,7 @@ too_long_said script status before now left_before left told more one said front
   too_long = λ e. (longer left_before left script told more, said (λ nine. omega arith));
 } where
   would_be : line_of (status_of script) ≡ too_long_line
-  would_be = ap (λ b. line_of (cond b 12 (cond (list_all is_done (replies_to script)) 0 1))) (lt-ltb max_input (length script) (longer left_before left script told more))
+  would_be = ap (λ b. line_of (cond b 12 (cond (list_all is_good (replies_to script)) 0 1))) (lt-ltb max_input (length script) (longer left_before left script told more))
 
   in_order : OneOf status (12 ∷ 9 ∷ []) → SaysInOrder script status before now
   in_order (inl e) = record {
@@ -157,9 +157,9 @@ too_long_said script status before now left_before left told more one said front
   not_unread (inr (inl e)) f = omega arith
   not_unread (inr (inr e)) f = e
 
-by_tests : (script : List ℕ) (long all : Bool) → nat_lt max_input (length script) ≡ long → list_all is_done (replies_to script) ≡ all
+by_tests : (script : List ℕ) (long all : Bool) → nat_lt max_input (length script) ≡ long → list_all is_good (replies_to script) ≡ all
     → status_of script ≡ (if long then 12 else if all then 0 else 1)
-by_tests script long all l a = ap (λ b. if b then 12 else if list_all is_done (replies_to script) then 0 else 1) l ∙ ap (λ b. if long then 12 else if b then 0 else 1) a
+by_tests script long all l a = ap (λ b. if b then 12 else if list_all is_good (replies_to script) then 0 else 1) l ∙ ap (λ b. if long then 12 else if b then 0 else 1) a
 
 -- where neither input nor output failed, the script tells the status
 pub completed : (script : List ℕ) (status : ℕ) (before now left : Option (List ℕ)) → IsAnswered script status before now left
@@ -171,7 +171,7 @@ completed script status before now left is (inr (inl e)) not_8 not_9 =
 completed script status before now left is (inr (inr (inl e))) not_8 not_9 = absurd (not_8 e)
 completed script status before now left is (inr (inr (inr (inl e)))) not_8 not_9 = absurd (not_9 e)
 completed script status before now left is (inr (inr (inr (inr (inl e))))) not_8 not_9 =
-    inl (e ∙ sym (by_tests script true (list_all is_done (replies_to script)) (lt-ltb max_input (length script) (is.too_long e).0) refl))
+    inl (e ∙ sym (by_tests script true (list_all is_good (replies_to script)) (lt-ltb max_input (length script) (is.too_long e).0) refl))
 completed script status before now left is (inr (inr (inr (inr (inr (inl e)))))) not_8 not_9 = inr (inl e)
 completed script status before now left is (inr (inr (inr (inr (inr (inr e)))))) not_8 not_9 = absurd e
 

@@ -1,10 +1,11 @@
 pub mod Grammar
-pub mod Headline
 pub mod Laws
 pub mod Lines
+pub mod Pieces
 pub mod Profiles
 pub mod Replies
 pub mod Script
 pub mod Stored
 pub mod Texts
+pub mod Tries
 pub mod Words

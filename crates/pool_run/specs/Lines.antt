@@ -50,6 +50,21 @@ WritesAtMost most (Get name) = ⊤
 abbrev pub commands_of : List (List ℕ) → List (Option Command)
 commands_of lines = map command_of lines
 
+-- a line of a script: longer than a line may be, of no form, or a client's command. A script of `try` has no line of the first
+-- kind, since it is shorter as a whole.
+pub data ScriptLine : Type 0 where
+  LongLine : ScriptLine
+  BadLine : ScriptLine
+  Client : (command : Command) → ScriptLine
+
+abbrev pub line_of_command : Option Command → ScriptLine
+line_of_command (Some command) = Client command
+line_of_command None = BadLine
+
+-- the line that a text between two line feeds is
+abbrev pub script_line : List ℕ → ScriptLine
+script_line text = line_of_command (command_of text)
+
 -- the command that the code's type stands for
 abbrev pub command_of_line : Line → Command
 command_of_line (FullLine name bytes) = Full name bytes

@@ -42,14 +42,25 @@ AsksFor words left text = AskTry words text ⊎ AsksToShow words left text
 abbrev pub IsAskedFor : Words → Option (List ℕ) → Option (List ℕ) → List ℕ → Type 0
 IsAskedFor words before now text = AskTry words text ⊎ AskProfile words text ⊎ (AskProfile words whole_input × ReadsAll before now text)
 
--- an accepted profile was shown with status 0, and else not at all or in part
+-- a text has a fault as a profile
+abbrev pub HasFault : List ℕ → Type 0
+HasFault text = (f : ProfileFault) × IsRefused text f
+
+-- the profile is a word, which is to be shown or has a fault, so that no input is needed
+abbrev pub NeedsNoInput : Words → List ℕ → Type 0
+NeedsNoInput words text = (AskProfile words text × (text ≢ whole_input)) ⊎ (AskTry words text × HasFault text)
+
+-- an accepted profile was shown with status 0, and else not at all or in part; where the input failed or memory ran out, not at all
 pub record ShowsProfile (p : Profile) (status : ℕ) (before now : Option (List ℕ)) : Type 0 where
   pub statuses : OneOf status (0 ∷ 8 ∷ 9 ∷ 13 ∷ [])
   pub whole : status ≡ 0 → (code : CodeRows) × IsCodeOf p code × Appends before now (profile_text p code)
   pub part : status ≢ 0 → Appends before now [] ⊎ ((code : CodeRows) × IsCodeOf p code × SaysFront before now (profile_text p code))
+  pub unsaid : OneOf status (8 ∷ 13 ∷ []) → Appends before now []
 
--- a text was refused: the line of its fault was said, or some first bytes of it where the output failed
+-- a text was refused: the line of its fault was said, some first bytes of it where the output failed, and nothing where the input
+-- failed or memory ran out
 pub record SaysFault (text : List ℕ) (status : ℕ) (before now : Option (List ℕ)) : Type 0 where
   pub statuses : OneOf status (3 ∷ 8 ∷ 9 ∷ 13 ∷ [])
   pub whole : status ≡ 3 → (f : ProfileFault) × IsRefused text f × Appends before now (fault_line f)
   pub part : status ≢ 3 → (f : ProfileFault) × IsRefused text f × SaysFront before now (fault_line f)
+  pub unsaid : OneOf status (8 ∷ 13 ∷ []) → Appends before now []

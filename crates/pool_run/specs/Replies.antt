@@ -1,10 +1,12 @@
 -- The replies to a script, and their text. Source: this project.
-use Rattle.std.specs.Prelude.{ℕ, Bool, true, false, List, [], ◌∷◌, ◌++◌, codes}
+use Rattle.std.specs.Prelude.{ℕ, Bool, true, false, List, [], ◌∷◌, ◌++◌, map, codes}
+use Rattle.std.specs.Fmt.{decimal}
 use Rattle.std.specs.List.{flat_map}
-use Rattle.std.specs.FinMap as map
-use Rattle.ec_model.specs.Objects.{Objects, Reply, Done, Absent, Bad, apply_line, reply_to_line, replies_to_lines}
+use Rattle.std.specs.FinMap as finite
+use Rattle.ec_model.specs.Objects.{Objects, Command, Reply, Done, Absent, Bad, apply_command, apply_line, reply_to, reply_to_line}
 use Rattle.ec_words.specs.Fields.{optional_field}
-use Rattle.pool_run.specs.Lines.{command_of, commands_of, kept_lines}
+use Rattle.ec_words.specs.Masks.{mask_text}
+use Rattle.pool_run.specs.Lines.{ScriptLine, LongLine, BadLine, Client, command_of, kept_lines, script_line}
 use Rattle.pool_run.specs.declared.reply.Reply.{Reply as CodeReply}
 use Rattle.pool_run.specs.declared.reply.Reply.TheVariants.{Done as CodeDone, Absent as CodeAbsent, Bad as CodeBad}
 
@@ -38,6 +40,71 @@ reply_of objects text = reply_to_line objects (command_of text)
 abbrev pub objects_after : Objects → List ℕ → Objects
 objects_after objects text = apply_line objects (command_of text)
 
--- the replies of a map of objects to a script, from no objects
-abbrev pub replies_to : List ℕ → List Reply
-replies_to script = replies_to_lines map.empty (commands_of (kept_lines script))
+-- how a pool serves a client's line: it does; it does not, since too few slots joined; it does not, since of an interval too few
+-- slots are left
+pub data Serving : Type 0 where
+  Serves : Serving
+  IsShort : (joined min : ℕ) → Serving
+  IsDown : (epoch slots : ℕ) → Serving
+
+-- what a line is answered: the reply of the objects, that the line is too long, or how the pool does not serve
+pub data Answer : Type 0 where
+  Replied : (reply : Reply) → Answer
+  TooLong : Answer
+  Short : (joined min : ℕ) → Answer
+  Down : (epoch slots : ℕ) → Answer
+
+-- the answer to a client's command
+abbrev pub answer_to_client : Serving → Objects → Command → Answer
+answer_to_client Serves objects command = Replied (reply_to objects command)
+answer_to_client (IsShort joined min) objects command = Short joined min
+answer_to_client (IsDown epoch slots) objects command = Down epoch slots
+
+-- the answer to a line
+abbrev pub answer_to_line : Serving → Objects → ScriptLine → Answer
+answer_to_line serving objects LongLine = TooLong
+answer_to_line serving objects BadLine = Replied Bad
+answer_to_line serving objects (Client command) = answer_to_client serving objects command
+
+-- the objects after a client's command: they change only where the pool serves
+abbrev pub objects_after_client : Serving → Objects → Command → Objects
+objects_after_client Serves objects command = apply_command objects command
+objects_after_client (IsShort joined min) objects command = objects
+objects_after_client (IsDown epoch slots) objects command = objects
+
+-- the objects after a line
+abbrev pub objects_after_line : Serving → Objects → ScriptLine → Objects
+objects_after_line serving objects LongLine = objects
+objects_after_line serving objects BadLine = objects
+objects_after_line serving objects (Client command) = objects_after_client serving objects command
+
+-- the answers to lines, each with how the pool serves when it comes, from these objects on
+abbrev pub replies_in : List (Serving × ScriptLine) → Objects → List Answer
+replies_in [] objects = []
+replies_in (line ∷ lines) objects = answer_to_line line.0 objects line.1 ∷ replies_in lines (objects_after_line line.0 objects line.1)
+
+-- an answer as it is said, with its line feed
+abbrev pub answer_text : Answer → List ℕ
+answer_text (Replied reply) = reply_text reply
+answer_text TooLong = codes "long\n"
+answer_text (Short joined min) = codes "short " ++ (decimal joined ++ 32 ∷ (decimal min ++ 10 ∷ []))
+answer_text (Down epoch slots) = codes "down " ++ (decimal epoch ++ 32 ∷ (mask_text slots ++ 10 ∷ []))
+
+-- some answers, one after another
+abbrev pub answers_text : List Answer → List ℕ
+answers_text answers = flat_map answer_text answers
+
+-- an answer begins with `ok`
+abbrev pub is_good : Answer → Bool
+is_good (Replied reply) = is_done reply
+is_good TooLong = false
+is_good (Short joined min) = false
+is_good (Down epoch slots) = false
+
+-- a line for objects in memory, which always serve
+abbrev pub served_line : List ℕ → Serving × ScriptLine
+served_line text = (Serves, script_line text)
+
+-- the answers of `try` to a script, from no objects
+abbrev pub replies_to : List ℕ → List Answer
+replies_to script = replies_in (map served_line (kept_lines script)) finite.empty

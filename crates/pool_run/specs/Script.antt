@@ -3,7 +3,7 @@ use Rattle.std.specs.Prelude.{◌≡◌, ◌<◌, ℕ, true, false, List, [], �
 use Rattle.std.specs.List.{list_all}
 use Rattle.std.specs.Io.KnownBytes.{Appends, Consumes, IsAtEnd}
 use Rattle.rig_disk.specs.Said.{SaysFront}
-use Rattle.pool_run.specs.Replies.{replies_to, replies_text, is_done}
+use Rattle.pool_run.specs.Replies.{replies_to, answers_text, is_good}
 use Rattle.pool_run.specs.Texts.{OneOf, max_input}
 
 -- all that was left of an input was taken
@@ -17,7 +17,7 @@ HadMore before now = (bytes : List ℕ) × Consumes before now bytes × (max_inp
 
 -- a script's lines were answered, all of them with status 0 or 1, and else some first bytes of the replies were said
 pub record IsRun (script : List ℕ) (status : ℕ) (before now : Option (List ℕ)) : Type 0 where
-  pub front : SaysFront before now (replies_text (replies_to script))
-  pub whole : OneOf status (0 ∷ 1 ∷ []) → Appends before now (replies_text (replies_to script))
-  pub all_done : status ≡ 0 → list_all is_done (replies_to script) ≡ true
-  pub some_refused : status ≡ 1 → list_all is_done (replies_to script) ≡ false
+  pub front : SaysFront before now (answers_text (replies_to script))
+  pub whole : OneOf status (0 ∷ 1 ∷ []) → Appends before now (answers_text (replies_to script))
+  pub all_done : status ≡ 0 → list_all is_good (replies_to script) ≡ true
+  pub some_refused : status ≡ 1 → list_all is_good (replies_to script) ≡ false

@@ -10,7 +10,10 @@ use Rattle.ec_model.specs.Codes.{CodeRows}
 use Rattle.ec_model.specs.Objects.{Object, Objects}
 use Rattle.stripe_map.specs.Chunks.{chunk_of_position}
 use Rattle.stripe_map.specs.Decoding.{AreOfObject}
-use Rattle.stripe_map.specs.declared.limits.TheConstants.{MAX_OBJECT}
+
+-- the bytes of the longest object
+abbrev pub max_object : ℕ
+max_object = 67108864
 
 -- what is kept of an object: the number of its bytes, and its chunks by position
 pub record Stored : Type 0 where
@@ -29,7 +32,7 @@ HaveChunksBelow chunks n = (p : ℕ) → IsSome (chunk_of_position chunks p) ↔
 
 -- an object of these bytes is kept: its size, and the chunks of all positions of the code
 pub record IsStored (code : CodeRows) (unit : ℕ) (bytes : List ℕ) (stored : Stored) : Type 0 where
-  pub within_limit : stored.size ≤ MAX_OBJECT
+  pub within_limit : stored.size ≤ max_object
   pub of_object : AreOfObject code unit stored.chunks stored.size bytes
   pub positions : HaveChunksBelow stored.chunks code.n
 

@@ -1,7 +1,8 @@
 -- The lines that a status says besides the replies, and the statuses. Source: this project.
-use Rattle.std.specs.Prelude.{◌≡◌, ◌⊎◌, ◌==◌, if◌then◌else◌, ℕ, List, [], ◌∷◌, codes, Option}
+use Rattle.std.specs.Prelude.{◌≡◌, ◌==◌, if◌then◌else◌, ℕ, List, [], ◌∷◌, codes, Option}
 use Rattle.std.specs.Io.KnownBytes.{Appends}
 use Rattle.rig_disk.specs.Said.{SaysFront}
+pub use Rattle.ec_words.specs.Numbers.{OneOf}
 
 -- the bytes of the longest input
 abbrev pub max_input : ℕ
@@ -19,11 +20,6 @@ line_of status =
     if status == 2 then usage_line
     else if status == 12 then too_long_line
     else []
-
--- the status is among these
-abbrev pub OneOf : ℕ → List ℕ → Type 0
-OneOf status [] = ⊥
-OneOf status (one ∷ more) = (status ≡ one) ⊎ OneOf status more
 
 -- a status comes only for its cause, and where the cause holds it comes, or one of those that go before it
 pub record ComesFor (cause : Type 0) (status : ℕ) (before : List ℕ) (ended : ℕ) : Type 0 where

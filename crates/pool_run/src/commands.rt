@@ -5,15 +5,15 @@ ghost use Rattle.rig_disk.specs.Faults.{Rose};
 ghost use Rattle.rig_disk.specs.Said.{SaysFront};
 ghost use Rattle.ec_code.specs.Profiles.{name_of};
 ghost use Rattle.ec_code.specs.Refusals.{IsAccepted, IsCodeOf};
-ghost use Rattle.pool_run.specs.Headline.{IsAnswered};
+ghost use Rattle.pool_run.specs.Tries.{IsAnswered};
 ghost use Rattle.plugin_reg.specs.Opening.{GivesProfile, IsRefused};
 ghost use Rattle.pool_run.specs.Profiles.{ShowsProfile, SaysFault, profile_text};
 ghost use Rattle.pool_run.specs.Script.{ReadsAll};
 ghost use Rattle.pool_run.specs.Texts.{OneOf, ComesFor, line_of, max_input};
 
 use crate::profiles::print_code;
-use crate::program::Status;
 use crate::script::{InputFault, read_input, run_script};
+use crate::status::Status;
 use crate::texts::TOO_LONG;
 use ec_code::{Code, Profile, ProfileFault};
 use plugin_reg::{RegFault, open_profile, print_fault};
@@ -35,6 +35,7 @@ pub fn try_profile<R: Rig, S: Source>(
         → IsAnswered script result.0 (R.said rig.old) (R.said rig.new) (S.left source.new) }
     ensures refused { (f : _) → IsRefused text.now f → SaysFault text.now result.0 (R.said rig.old) (R.said rig.new) }
     ensures status_3 { result.0 ≡ 3 → (f : _) × IsRefused text.now f }
+    ensures at_once { (f : _) → IsRefused text.now f → OneOf result.0 (3 ∷ 9 ∷ 13 ∷ []) × (source.new ≡ source.old) }
     ensures unread { result.0 ≡ 3 → source.new ≡ source.old }
     ensures too_long { result.0 ≡ 12 → Appends (R.said rig.old) (R.said rig.new) (line_of 12) }
     ensures source { result.0 ≡ 8 → Rose (S.faults source.old) (S.faults source.new) }

@@ -1,7 +1,7 @@
 //! The script language of a pool, and the one call that the program `ecpool` makes.
 //!
-//! Headline: what `ecpool try` says is a prefix of the replies of a map of objects, in the order of the script's
-//! lines, and then the line of its status; with status 0 or 1 it is all of them ([`ecpool`], `specs/Headline.antt`).
+//! What `ecpool try` promises: what `ecpool try` says is a prefix of the replies of a map of objects, in the order of the script's
+//! lines, and then the line of its status; with status 0 or 1 it is all of them ([`ecpool`], `specs/Tries.antt`).
 //!
 //! The script `full a 0102` and `get a` is answered `ok` and `ok 0102`, with status 0.
 #![tactic(auto)]
@@ -16,9 +16,12 @@ mod profiles;
 mod program;
 mod reply;
 mod script;
+mod session;
+mod status;
 mod texts;
 
-pub use laws::lines_are_spelled;
+pub use laws::{fronts_are_whole_pieces, lines_are_spelled};
 pub use line::{Line, LineFault, read_line};
-pub use program::{Status, ecpool};
+pub use program::ecpool;
 pub use reply::{Reply, print_reply};
+pub use status::Status;

@@ -9,7 +9,7 @@ use std::alloc::Global;
 use thiserror::Error;
 
 /// A line of a script.
-#[derive(Debug, PartialEq, Eq, Drop)]
+#[derive(Drop)]
 pub enum Line {
     /// `full NAME HEX`: the object's bytes become these.
     Full { name: Name, bytes: Bytes },
@@ -18,7 +18,7 @@ pub enum Line {
 }
 
 /// Why a text is no line.
-#[derive(Clone, Copy, Debug, PartialEq, Eq, Error)]
+#[derive(Clone, Copy, Debug, Error)]
 pub enum LineFault {
     /// The text has none of the forms.
     #[error("no line of the script language")]

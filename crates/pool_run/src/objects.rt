@@ -2,10 +2,9 @@
 ghost use Rattle.std.specs.Prelude.{◌≡◌, ◌≤◌, length, IfOk, OnOk, OnErr};
 ghost use Rattle.std.specs.FinMap as map;
 ghost use Rattle.ec_model.specs.Objects.{Objects as ObjectMap, apply_command, reply_to};
-ghost use Rattle.stripe_map.specs.declared.limits.TheConstants.{MAX_OBJECT};
 ghost use Rattle.pool_run.specs.Lines.{command_of_line, WritesAtMost};
 ghost use Rattle.pool_run.specs.Replies.{shown};
-ghost use Rattle.pool_run.specs.Stored.{AreStored, bytes_at};
+ghost use Rattle.pool_run.specs.Stored.{AreStored, bytes_at, max_object};
 
 use crate::line::Line;
 use crate::object::StoredObject;
@@ -53,7 +52,7 @@ impl Objects {
     pub fn apply(&mut self, line: Line, code: &dyn Code, unit: u32) -> Result<Reply, NoMemory>
         requires some { 1 ≤ unit }
         requires few { unit ≤ 65536 }
-        requires within_limit { WritesAtMost MAX_OBJECT (command_of_line line) }
+        requires within_limit { WritesAtMost max_object (command_of_line line) }
         requires stored { (objects : ObjectMap) × AreStored (meaning code.now) unit objects self.old }
         ensures reply { IfOk result (λ reply. (objects : ObjectMap)
             → AreStored (meaning code.now) unit objects self.old
@@ -84,7 +83,7 @@ impl Objects {
     ) -> Result<(), NoMemory>
         requires some { 1 ≤ unit }
         requires few { unit ≤ 65536 }
-        requires within_limit { length bytes.now ≤ MAX_OBJECT }
+        requires within_limit { length bytes.now ≤ max_object }
         ensures ok { OnOk result ((objects : ObjectMap) → AreStored (meaning code.now) unit objects self.old
             → AreStored (meaning code.now) unit
             (map.insert objects name (record { bytes = bytes.now })) self.new) }

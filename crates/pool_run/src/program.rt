@@ -3,24 +3,21 @@ ghost use Rattle.std.specs.Prelude.{◌≡◌, ◌≢◌, ◌<◌, ◌∷◌, []
 ghost use Rattle.std.specs.Io.KnownBytes.{Appends};
 ghost use Rattle.rig_disk.specs.Faults.{Rose};
 ghost use Rattle.ec_code.specs.Profiles.{name_of};
-ghost use Rattle.pool_run.specs.Headline.{IsAnswered, status_of};
+ghost use Rattle.pool_run.specs.Tries.{IsAnswered, status_of};
 ghost use Rattle.plugin_reg.specs.Opening.{GivesProfile, IsRefused};
-ghost use Rattle.pool_run.specs.Profiles.{AsksToShow, AsksFor, ShowsProfile, SaysFault, IsAskedFor};
+ghost use Rattle.pool_run.specs.Profiles.{AsksToShow, AsksFor, ShowsProfile, SaysFault, IsAskedFor, NeedsNoInput};
 ghost use Rattle.pool_run.specs.Texts.{OneOf, ComesFor, SaysItsLine, line_of, max_input};
 ghost use Rattle.pool_run.specs.Words.{AreWrong, AskTry, AskProfile, Asks, whole_input};
 
 use crate::commands::{say_last, show_input, show_profile, try_profile};
+use crate::status::Status;
 use crate::texts::USAGE;
 use ec_code::Code;
 use rig_disk::{Rig, Source, VOICE};
 use std::alloc::Global;
 
-/// How the program ends: the number is its exit status, which docs/SCRIPT.md explains.
-#[derive(Clone, Copy, Debug, PartialEq, Eq)]
-pub struct Status(pub u8);
-
 // What the words ask for.
-#[derive(Clone, Copy, Debug, PartialEq, Eq)]
+#[derive(Clone, Copy)]
 enum Request<'a> {
     Wrong,
     Try(&'a str),
@@ -41,7 +38,7 @@ pub fn ecpool<R: Rig, S: Source>(
     ensures statuses { OneOf result.0 (0 ∷ 1 ∷ 2 ∷ 3 ∷ 8 ∷ 9 ∷ 12 ∷ 13 ∷ []) }
 
     // What is said to a script is a prefix of the map's replies to it, and then the line of the status.
-    ensures headline { (profile script : List ℕ) (p : _) → AskTry words.now profile → GivesProfile profile p
+    ensures tried { (profile script : List ℕ) (p : _) → AskTry words.now profile → GivesProfile profile p
         → S.left source.old ≡ Some script
         → IsAnswered script result.0 (R.said rig.old) (R.said rig.new) (S.left source.new) }
 
@@ -74,6 +71,10 @@ pub fn ecpool<R: Rig, S: Source>(
     // Status 12 says its line and nothing else. Statuses 2 and 3 leave the input alone, where the profile isn't its text.
     ensures too_long { result.0 ≡ 12 → Appends (R.said rig.old) (R.said rig.new) (line_of 12) }
     ensures unread { OneOf result.0 (2 ∷ 3 ∷ []) → ¬ (AskProfile words.now whole_input) → source.new ≡ source.old }
+
+    // A profile that is a word, to be shown or refused, needs no input, which is left alone whatever the status is.
+    ensures at_once { (profile : List ℕ) → NeedsNoInput words.now profile
+        → OneOf result.0 (0 ∷ 3 ∷ 9 ∷ 13 ∷ []) × (source.new ≡ source.old) }
 
     // With status 0 or 1 no count of faults rose, and no slot's count ever changes. The boxes go by their names.
     ensures quiet_source { OneOf result.0 (0 ∷ 1 ∷ []) → S.faults source.new ≡ S.faults source.old }

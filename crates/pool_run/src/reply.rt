@@ -9,7 +9,7 @@ use ec_words::{Bytes, NoMemory};
 use std::alloc::Global;
 
 /// The answer to a line.
-#[derive(Debug, PartialEq, Eq, Drop)]
+#[derive(Drop)]
 pub enum Reply {
     /// `ok`, with the text of its second field, which is empty where there is none.
     Done(Bytes),
@@ -44,16 +44,23 @@ pub fn print_reply(alloc: Global, reply: &Reply) -> Result<Bytes, NoMemory>
     ensures { IfOk result (λ text. text ≡ reply_text (shown reply.now)) }
 {
     let mut list = Vec::new(alloc);
+    push_reply(&mut list, reply)?;
+    Ok(Bytes::of(list))
+}
+
+fn push_reply(list: &mut Vec<u8>, reply: &Reply) -> Result<(), NoMemory>
+    ensures { OnOk result (list.new.items ≡ list.old.items ++ reply_text (shown reply.now)) }
+{
     match reply {
         Reply::Done(text) => {
             list.extend_from_slice(b"ok")?;
-            push_field(&mut list, text.as_slice())?;
+            push_field(list, text.as_slice())?;
         }
         Reply::Absent => list.extend_from_slice(b"absent")?,
         Reply::Bad => list.extend_from_slice(b"bad")?,
     }
     list.push(b'\n')?;
-    Ok(Bytes::of(list))
+    Ok(())
 }
 
 fn push_field(list: &mut Vec<u8>, text: &[u8]) -> Result<(), NoMemory>

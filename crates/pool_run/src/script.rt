@@ -1,20 +1,13 @@
 //! A script is read whole, and answered line by line.
-ghost use Rattle.std.specs.Prelude.{◌≡◌, ◌≢◌, ◌≤◌, ℕ, [], ◌∷◌, length, map, false, IfOk, OnOk, OnErr, Err};
-ghost use Rattle.std.specs.Io.KnownBytes.{Appends};
-ghost use Rattle.ec_model.specs.Objects.{Objects as ObjectMap};
+ghost use Rattle.std.specs.Prelude.{◌≡◌, ◌≢◌, ◌≤◌, ℕ, [], ◌∷◌, length, map, IfOk, OnOk, Err};
 ghost use Rattle.rig_disk.specs.Faults.{Rose};
-ghost use Rattle.rig_disk.specs.Said.{SaysFront};
 ghost use Rattle.pool_run.specs.Lines.{is_kept, kept_lines};
-ghost use Rattle.pool_run.specs.Replies.{shown, reply_of, objects_after, reply_text, is_done};
-ghost use Rattle.pool_run.specs.Stored.{AreStored};
 ghost use Rattle.pool_run.specs.Script.{IsRun, ReadsAll, HadMore};
 ghost use Rattle.pool_run.specs.Texts.{OneOf, max_input};
 
 use crate::limits::MAX_INPUT;
-use crate::line::{LineFault, read_line};
-use crate::objects::Objects;
-use crate::program::Status;
-use crate::reply::{Reply, print_reply};
+use crate::session::{Session, Stop};
+use crate::status::Status;
 use ec_code::Code;
 use ec_words::NoMemory;
 use rig_disk::{Rig, Source, VOICE};
@@ -24,7 +17,7 @@ use std::alloc::Global;
 const PIECE: usize = 4096;
 
 /// Why the input could not be read.
-#[derive(Clone, Copy, Debug, PartialEq, Eq)]
+#[derive(Clone, Copy)]
 pub enum InputFault {
     TooLong,
     Failed,
@@ -55,13 +48,6 @@ pub fn read_input<S: Source>(alloc: Global, source: &mut S) -> Result<Vec<u8>, I
     Err(InputFault::TooLong)
 }
 
-// Why a script was not answered to its end.
-#[derive(Clone, Copy, Debug, PartialEq, Eq)]
-enum Stop {
-    Voice,
-    NoMemory,
-}
-
 /// Answers each line of a script, from no objects, which are kept by this code with chunks of `unit` bytes.
 pub fn run_script<R: Rig>(
     alloc: Global,
@@ -82,16 +68,15 @@ pub fn run_script<R: Rig>(
     let Ok(lines) = kept_lines(alloc, script) else {
         return Status(13);
     };
-    let mut objects = Objects::new(alloc);
-    let mut all_done = true;
+    let mut session = Session::new(alloc);
     for line in &lines {
-        match run_line(alloc, line, code, unit, &mut objects, rig) {
-            Ok(done) => all_done = all_done && done,
+        match session.serve(line, code, unit, rig) {
+            Ok(()) => {}
             Err(Stop::Voice) => return Status(9),
             Err(Stop::NoMemory) => return Status(13),
         }
     }
-    Status(if all_done { 0 } else { 1 })
+    session.status()
 }
 
 // The lines that count, without their line feeds.
@@ -111,67 +96,5 @@ fn is_kept(line: &[u8]) -> bool
     match line {
         [] => false,
         [first, ..] => *first != b'#',
-    }
-}
-
-// Answers one line, and says whether its reply begins with `ok`.
-fn run_line<R: Rig>(
-    alloc: Global,
-    text: &[u8],
-    code: &dyn Code,
-    unit: u32,
-    objects: &mut Objects,
-    rig: &mut R,
-) -> Result<bool, Stop>
-    requires some { 1 ≤ unit }
-    requires few { unit ≤ 65536 }
-    requires within { length text.now ≤ max_input }
-    requires stored { (all : ObjectMap) × AreStored (meaning code.now) unit all objects.old }
-    ensures done { IfOk result (λ done. (all : ObjectMap) → AreStored (meaning code.now) unit all objects.old
-        → done ≡ is_done (reply_of all text.now)) }
-    ensures after { OnOk result ((all : ObjectMap) → AreStored (meaning code.now) unit all objects.old
-        → AreStored (meaning code.now) unit (objects_after all text.now) objects.new) }
-    ensures said { OnOk result ((all : ObjectMap) → AreStored (meaning code.now) unit all objects.old
-        → Appends (R.said rig.old) (R.said rig.new) (reply_text (reply_of all text.now))) }
-    ensures quiet { OnOk result (R.faults rig.new VOICE ≡ R.faults rig.old VOICE) }
-    ensures front { OnErr result ((all : ObjectMap) → AreStored (meaning code.now) unit all objects.old
-        → SaysFront (R.said rig.old) (R.said rig.new) (reply_text (reply_of all text.now))) }
-    ensures voice { result ≡ Err Stop.Voice → Rose (R.faults rig.old VOICE) (R.faults rig.new VOICE) }
-    ensures slots { (slot : ℕ) → slot ≢ VOICE → R.faults rig.new slot ≡ R.faults rig.old slot }
-{
-    let Ok(reply) = answer(alloc, text, code, unit, objects) else {
-        return Err(Stop::NoMemory);
-    };
-    let Ok(line) = print_reply(alloc, &reply) else {
-        return Err(Stop::NoMemory);
-    };
-    match rig.say(line.as_slice()) {
-        Ok(()) => Ok(reply.is_done()),
-        Err(_) => Err(Stop::Voice),
-    }
-}
-
-// The reply to one line, whose effect is done. After an `Err` nothing has changed.
-fn answer(
-    alloc: Global,
-    text: &[u8],
-    code: &dyn Code,
-    unit: u32,
-    objects: &mut Objects,
-) -> Result<Reply, NoMemory>
-    requires some { 1 ≤ unit }
-    requires few { unit ≤ 65536 }
-    requires within { length text.now ≤ max_input }
-    requires stored { (all : ObjectMap) × AreStored (meaning code.now) unit all objects.old }
-    ensures reply { IfOk result (λ reply. (all : ObjectMap) → AreStored (meaning code.now) unit all objects.old
-        → shown reply ≡ reply_of all text.now) }
-    ensures after { OnOk result ((all : ObjectMap) → AreStored (meaning code.now) unit all objects.old
-        → AreStored (meaning code.now) unit (objects_after all text.now) objects.new) }
-    ensures unchanged { OnErr result (objects.new ≡ objects.old) }
-{
-    match read_line(alloc, text) {
-        Ok(line) => objects.apply(line, code, unit),
-        Err(LineFault::Bad) => Ok(Reply::Bad),
-        Err(LineFault::NoMemory) => Err(NoMemory),
     }
 }

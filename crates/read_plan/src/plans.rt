@@ -28,6 +28,3 @@ pub fn plan(code: &dyn Code, avail: Mask, wanted: Mask) -> Option<Mask>
         None
     }
 }
-
-#[cfg(test)]
-mod tests;

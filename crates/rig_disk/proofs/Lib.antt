@@ -2,6 +2,7 @@ mod AgreeLemmas
 pub mod Areas
 pub mod CallerLemmas
 pub mod FrameLemmas
+pub mod Instants
 mod LogLemmas
 pub mod Moments
 mod PickLemmas

@@ -11,4 +11,5 @@ pub mod MemRig
 pub mod MemSource
 pub mod Said
 pub mod Spoil
+pub mod Throughout
 pub mod Untold

@@ -2,7 +2,7 @@
 use ec_words::Bytes;
 
 /// A call that changed what a crash may leave, or what was said.
-#[derive(Debug, Drop)]
+#[derive(Drop)]
 pub enum Call {
     Write {
         slot: u8,

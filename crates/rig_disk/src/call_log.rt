@@ -16,7 +16,7 @@ use std::marker::Model;
 
 /// Slots in memory, and an output, with the calls that made them what they are. A contract sees the slots at first
 /// and the calls.
-#[derive(Debug, Drop)]
+#[derive(Drop)]
 pub struct CallLog {
     first: Areas,
     areas: Areas,

@@ -15,7 +15,7 @@ use std::alloc::Global;
 const MARK: u8 = 0xff;
 
 /// What is picked of the bytes that a crash may leave.
-#[derive(Clone, Copy, Debug, PartialEq, Eq)]
+#[derive(Clone, Copy)]
 pub enum Pick {
     /// Bytes and lengths as at the last sync.
     Synced,

@@ -1,6 +1,6 @@
 //! The real outside: folders and standard output ([`FileRig`]), and standard input ([`StdSource`]). Both tell no
 //! contents, so what they do to files and streams is tested and trusted, and their counts of faults are proved.
-ghost use Rattle.std.specs.Prelude.{◌≡◌, ◌≢◌, ◌<◌, ◌≤◌, ℕ, List, Option, None, IfOk, true, false, slice_index_or};
+ghost use Rattle.std.specs.Prelude.{◌≡◌, ◌≢◌, ◌<◌, ◌≤◌, ℕ, List, length, Option, None, IfOk, true, false, slice_index_or};
 ghost use Rattle.rig_disk.specs.Faults.{Rose, count_limit};
 
 use crate::limits::{COUNTED, SLOTS};
@@ -8,7 +8,8 @@ use crate::slot_files::SlotFiles;
 use crate::{Failed, Rig, Source, VOICE};
 use ec_words::NoMemory;
 use std::alloc::Global;
-use std::io::Read;
+use std::io;
+use std::io::{ErrorKind, Read};
 use std::rt::Runtime;
 
 /// A rig over the folders `slot.00` to `slot.16` of a folder. It speaks to standard output.
@@ -154,7 +155,7 @@ impl<T: Runtime> Rig for FileRig<T> {
     }
 }
 
-/// Standard input.
+/// Standard input. A read that was interrupted is made again.
 #[derive(Drop)]
 pub struct StdSource<T: Runtime> {
     rt: T,
@@ -170,13 +171,26 @@ impl<T: Runtime> StdSource<T> {
     }
 }
 
+// Reads, and once more each time that the read is interrupted.
+fn read_again<S: Read>(input: &mut S, into: &mut [u8]) -> io::Result<usize>
+    ensures { IfOk result (λ count. count ≤ length into.new) }
+{
+    for _ in 0..u64::MAX {
+        match input.read(into) {
+            Err(error) if error.kind() == ErrorKind::Interrupted => {}
+            answer => return answer,
+        }
+    }
+    Err(ErrorKind::Interrupted.into())
+}
+
 impl<T: Runtime> Source for StdSource<T> {
     ghost left = { λ _. None };
 
     ghost faults = { λ source. source.faults };
 
     fn take(&mut self, into: &mut [u8]) -> Result<usize, Failed> {
-        match self.rt.reader().read(into) {
+        match read_again(&mut self.rt.reader(), into) {
             Ok(count) => Ok(count),
             Err(_) => {
                 self.faults = self.faults.saturating_add(1);
@@ -185,6 +199,3 @@ impl<T: Runtime> Source for StdSource<T> {
         }
     }
 }
-
-#[cfg(test)]
-mod tests;

@@ -9,7 +9,7 @@ use ec_words::NoMemory;
 use std::alloc::Global;
 
 /// The calls on each slot, and on the output as number 17, how many of them have failed, and those that are to fail.
-#[derive(Debug, Drop)]
+#[derive(Drop)]
 pub struct FaultPlan {
     calls: [u64; COUNTED],
     faults: [u64; COUNTED],

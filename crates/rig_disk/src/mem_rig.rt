@@ -374,6 +374,3 @@ impl Rig for MemRig {
         Ok(())
     }
 }
-
-#[cfg(test)]
-mod tests;

@@ -5,7 +5,7 @@ use crate::{Failed, Source};
 use ec_words::Bytes;
 
 /// Input in memory. It takes no memory.
-#[derive(Debug, Drop)]
+#[derive(Drop)]
 pub struct MemSource {
     bytes: Bytes,
     at: usize,
@@ -66,28 +66,5 @@ impl Source for MemSource {
         into[..count].copy_from_slice(&rest[..count]);
         self.at += count;
         Ok(count)
-    }
-}
-
-#[cfg(test)]
-mod tests {
-    use super::*;
-    use std::test::Fail;
-
-    #[test]
-    fn input_comes_in_pieces(rt: HostRuntime) -> Result<(), Fail> {
-        let mut source = MemSource::new(Bytes::from_slice(rt.alloc(), b"abc")?, Some(2));
-        let mut piece = [0u8; 2];
-        for (outcome, bytes) in [
-            (Ok(2), b"ab"),
-            (Err(Failed), b"ab"),
-            (Ok(1), b"cb"),
-            (Ok(0), b"cb"),
-            (Ok(0), b"cb"),
-        ] {
-            assert_eq!(rt; source.take(&mut piece), outcome);
-            assert_eq!(rt; piece, *bytes);
-        }
-        Ok(())
     }
 }

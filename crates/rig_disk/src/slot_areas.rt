@@ -10,7 +10,7 @@ use std::marker::Model;
 use std::mem;
 
 /// The bytes of each slot's two areas. A contract sees the first areas in the order of the slots, and the second ones.
-#[derive(Debug, Drop)]
+#[derive(Drop)]
 pub struct Areas {
     firsts: Vec<Bytes>,
     seconds: Vec<Bytes>,

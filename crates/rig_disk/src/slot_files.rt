@@ -71,10 +71,7 @@ impl<T: Runtime> SlotFiles<T> {
     /// Writes from `at` on. The first write to an area makes its file.
     pub fn write(&mut self, slot: u8, area: u8, at: u64, bytes: &[u8]) -> io::Result<()> {
         let index = self.ask(slot, area)?;
-        if let Some(AreaFile::Missing) = self.areas.get(index) {
-            let made = self.make(slot, area)?;
-            self.put(index, made);
-        }
+        self.make_missing(index, slot, area)?;
         match self.areas.get_mut(index) {
             Some(AreaFile::Open(open)) => open.write(at, bytes),
             _ => Err(ErrorKind::NotFound.into()),
@@ -90,7 +87,8 @@ impl<T: Runtime> SlotFiles<T> {
         }
     }
 
-    /// Syncs an area's bytes and length, and after its file was made the folder of the slot.
+    /// Syncs an area's bytes and length, and at its first sync the folder of the slot too: the run that made the file may
+    /// have been stopped before it synced that.
     pub fn sync(&mut self, slot: u8, area: u8) -> io::Result<()> {
         let index = self.ask(slot, area)?;
         let folder = format!(in self.alloc; "{}/slot.{slot:02}", self.dir)?;
@@ -123,31 +121,42 @@ impl<T: Runtime> SlotFiles<T> {
 
     fn find(&self, slot: u8, area: u8) -> io::Result<AreaFile<T::File>> {
         let path = format!(in self.alloc; "{}/slot.{slot:02}/area.{area}", self.dir)?;
-        let opened = OpenOptions::new()
-            .read(true)
-            .write(true)
-            .open(&self.rt, path.as_str());
-        match opened {
-            Ok(file) => {
-                let len = file.metadata()?.len();
-                let made = false;
-                Ok(AreaFile::Open(OpenArea { file, len, made }))
-            }
-            Err(error) if error.kind() == ErrorKind::NotFound => Ok(AreaFile::Missing),
-            Err(error) => Err(error),
+        find_file(&self.rt, path.as_str())
+    }
+
+    // Makes an area's file where there is none.
+    fn make_missing(&mut self, index: usize, slot: u8, area: u8) -> io::Result<()> {
+        if let Some(AreaFile::Missing) = self.areas.get(index) {
+            let made = self.make(slot, area)?;
+            self.put(index, made);
         }
+        Ok(())
     }
 
     fn make(&self, slot: u8, area: u8) -> io::Result<AreaFile<T::File>> {
         let path = format!(in self.alloc; "{}/slot.{slot:02}/area.{area}", self.dir)?;
-        let file = OpenOptions::new()
-            .read(true)
-            .write(true)
-            .create_new(true)
-            .open(&self.rt, path.as_str())?;
-        let made = true;
-        Ok(AreaFile::Open(OpenArea { file, len: 0, made }))
+        make_file(&self.rt, path.as_str())
     }
+}
+
+fn find_file<T: Runtime>(rt: &T, path: &str) -> io::Result<AreaFile<T::File>> {
+    match OpenOptions::new().read(true).write(true).open(rt, path) {
+        Ok(file) => {
+            let len = file.metadata()?.len();
+            Ok(AreaFile::Open(opened(file, len)))
+        }
+        Err(error) if error.kind() == ErrorKind::NotFound => Ok(AreaFile::Missing),
+        Err(error) => Err(error),
+    }
+}
+
+fn make_file<T: Runtime>(rt: &T, path: &str) -> io::Result<AreaFile<T::File>> {
+    let file = OpenOptions::new()
+        .read(true)
+        .write(true)
+        .create_new(true)
+        .open(rt, path)?;
+    Ok(AreaFile::Open(opened(file, 0)))
 }
 
 /// What is known of an area's file.
@@ -164,8 +173,14 @@ struct OpenArea<F: Drop> {
     file: F,
     /// The length as it was first asked for, in bytes, and as the writes and cuts since changed it.
     len: u64,
-    /// The file was made, and its folder is not yet synced since.
-    made: bool,
+    /// The folder was synced since the file was opened.
+    listed: bool,
+}
+
+// An area's file as it is opened.
+fn opened<F: Drop>(file: F, len: u64) -> OpenArea<F> {
+    let listed = false;
+    OpenArea { file, len, listed }
 }
 
 impl<F: Read + Write + Seek + OpenFile + Drop> OpenArea<F> {
@@ -197,9 +212,9 @@ impl<F: Read + Write + Seek + OpenFile + Drop> OpenArea<F> {
 
     fn sync<T: Runtime>(&mut self, rt: &T, folder: &str) -> io::Result<()> {
         self.file.sync_data()?;
-        if self.made {
+        if !self.listed {
             sync_folder(rt, folder)?;
-            self.made = false;
+            self.listed = true;
         }
         Ok(())
     }

@@ -2,4 +2,4 @@ mod AnyKLemmas
 mod InterpolationLemmas
 mod PolynomialLemmas
 mod RootLemmas
-mod SystematicLemmas
+pub mod SystematicLemmas

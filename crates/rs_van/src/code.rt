@@ -1,5 +1,6 @@
 //! The code as an object.
-ghost use Rattle.std.specs.Prelude.{codes};
+ghost use Rattle.std.specs.Prelude.{◌≡◌, codes, slice_index};
+ghost use Rattle.ec_model.specs.Rows.{entry_at};
 ghost use Rattle.ec_model.specs.Codes.{IsCode};
 ghost use Rattle.ec_code.specs.Shapes.{HasShape};
 ghost use Rattle.rs_van.specs.Systematic.{systematic};
@@ -9,7 +10,7 @@ use crate::rows::{rows_of, unit_rows};
 use ec_code::{Code, Profile, ProfileFault, Shape, encode_rows};
 
 /// The code reed_sol_van. Its data chunks stand first, and chunk sizes are multiples of k.
-#[derive(Clone, Copy, Debug)]
+#[derive(Clone, Copy)]
 pub struct RsVan {
     k: u8,
     n: u8,
@@ -18,9 +19,11 @@ pub struct RsVan {
 }
 
 impl RsVan {
-    /// The code before `init`: one data chunk, and no other position.
+    /// The code before `init`: one data chunk at position 0, with the row 1, and no other position.
     pub fn new() -> RsVan
-        ensures { HasShape (⟦<RsVan as Code>⟧.meaning result) 1 1 1 }
+        ensures shape { HasShape (⟦<RsVan as Code>⟧.meaning result) 1 1 1 }
+        ensures row { entry_at (⟦<RsVan as Code>⟧.meaning result).rows 0 0 ≡ 1 }
+        ensures place { slice_index (⟦<RsVan as Code>⟧.meaning result).places 0 ≡ 0 }
     {
         RsVan {
             k: 1,
@@ -70,6 +73,3 @@ impl Code for RsVan {
         encode_rows(&self.rows, self.k, self.n, stripe, unit, out);
     }
 }
-
-#[cfg(test)]
-mod tests;

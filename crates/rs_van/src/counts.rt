@@ -5,7 +5,7 @@ ghost use Rattle.ec_code.specs.Refusals.{Given, IsUnit, IsRefusedBy, IsAccepted}
 use ec_code::{Key, Plugin, Profile, ProfileFault, Technique};
 
 /// The numbers of data and of coding chunks.
-#[derive(Clone, Copy, Debug, PartialEq, Eq)]
+#[derive(Clone, Copy)]
 pub struct Counts {
     pub k: u8,
     pub m: u8,

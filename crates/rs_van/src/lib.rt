@@ -14,4 +14,4 @@ mod counts;
 mod rows;
 
 pub use code::RsVan;
-pub use rows::coding_entry;
+pub use rows::{coding_entry, unit_row, unit_rows};

@@ -34,7 +34,8 @@ fn coding_row(k: u8, m: u8, r: u8) -> [u8; 16]
     row
 }
 
-fn unit_row(i: u8) -> [u8; 16]
+/// Unit row `i`: 1 at its place, and 0 elsewhere.
+pub fn unit_row(i: u8) -> [u8; 16]
     requires { i < 16 }
     ensures { (j : ℕ) → j < 16 → slice_index result j ≡ unit_entry i j }
 {
@@ -45,7 +46,7 @@ fn unit_row(i: u8) -> [u8; 16]
     row
 }
 
-/// The first `k` unit rows.
+/// The first `k` unit rows, and others past them.
 pub fn unit_rows(k: u8) -> [[u8; 16]; 16]
     requires { k ≤ 16 }
     ensures { (i j : ℕ) → i < k → j < k → entry_at result i j ≡ unit_entry i j }

@@ -1,9 +1,14 @@
+pub mod BroughtLemmas
 pub mod FrontLemmas
+pub mod HeadLemmas
+pub mod LengthLemmas
 pub mod PastLemmas
 pub mod PutLemmas
 pub mod ReadingLemmas
 pub mod ReplayLemmas
+pub mod ShortLemmas
 pub mod StepLemmas
 pub mod StepReadingLemmas
+pub mod TextLemmas
 pub mod UndoLemmas
 pub mod VersionLemmas

@@ -25,6 +25,16 @@ goes_on g (step ∷ first) more s t is =
       | false ↦ λ e. absurd (steps.none_some t e)
     ] is
 
+-- the first of the steps that lead on fits, and the others lead on from where it leads
+pub first_step : (g : Geometry) (s : Replay) (step : Step) (more : List Step) (t : Replay) → replay_from g s (step ∷ more) ≡ Some t
+    → (fits g (state_of g s) step ≡ true) × (replay_from g (replay_after g s step) more ≡ Some t)
+first_step g s step more t is =
+    elim (fits g (state_of g s) step) as (λ b. cond b (replay_from g (replay_after g s step) more) None ≡ Some t
+    → (b ≡ true) × (replay_from g (replay_after g s step) more ≡ Some t)) [
+      | true ↦ λ e. (refl, e)
+      | false ↦ λ e. absurd (steps.none_some t e)
+    ] is
+
 -- all entries are up to the last one's version
 pub all_up_to : (low : Version) (es : List Entry) → AreRising low es → up_to entry_version (last_version low es) es ≡ es
 all_up_to low [] rising = refl

@@ -1,6 +1,8 @@
 -- A step on the state of a replay gives the state of the replay with one step more, and a replay stays whole.
 use Rattle.std.proofs.Common.{◌≡◌, ◌⊎◌, inl, inr, ◌+◌, ◌*◌, ◌<◌, ◌≤◌, true, false, cond, not, List, [], ◌∷◌, ◌++◌, map, length, nat_le, ◌==◌, is_some, unwrap_or, refl, sym, ap, subst, ◌∙◌, Option, Some, None, arith}
-use Rattle.std.specs.List.{AllByRecursion, list_any}
+use Rattle.std.specs.List.{AllByRecursion, list_any, list_all}
+use Rattle.std.specs.Ordering.{nat_cmp}
+use Rattle.std.specs.Cmp.Lexicographic.{slice_cmp}
 use Rattle.std.proofs.lemmas.Grind.{common_steps}
 use Rattle.std.proofs.lemmas.Bool.{true≢false, false≢true, cond-true, cond-false, and_parts, or_cases, not-true, eqb-true, leb-true}
 use Rattle.std.proofs.lemmas.List.Folds.{list_any-append}
@@ -14,6 +16,7 @@ use Rattle.shard_model.specs.Steps.{Entry, Back, Firm, Trim, Started, Partial, P
 use Rattle.shard_model.specs.States.{version_of, effect, logged, settled, undone, is_known, holds, fits, follows, state_after, are_attrs, brought}
 use Rattle.shard_model.specs.Limits.{max_size, max_attrs}
 use Rattle.shard_model.proofs.UndoLemmas.{few_pairs}
+use Rattle.shard_model.proofs.ShortLemmas.{is_short, pairs_short}
 use Rattle.shard_model.specs.Replays.{Replay, Running, entry_version, replayed, last_version, head, logged_all, log, state_of, replay_after, AreRising, AreFitting, IsWhole, fresh_replay, replay_of, replay_from}
 use Rattle.shard_model.proofs.VersionLemmas.{up_to-trans, above-trans, above-weak, up_to-refl, same-up_to, same_version, is_same-version}
 use Rattle.shard_model.proofs.FrontLemmas.{after-after, up_to-after, after-append, up_to-append, after-map, after-push, any_after}
@@ -41,7 +44,7 @@ module _ (g : Geometry) (positive : 0 < g.k * g.unit) where
       let later : e.prior.epoch ≤ e.version.epoch = grind (arith, common_steps) in
       next_above (head s) e.prior e.version same next later
 
-  known_low : (s : Replay) (v : Version) → is_known (state_of g s) v ≡ true → is_up_to s.tail v ≡ true
+  pub known_low : (s : Replay) (v : Version) → is_known (state_of g s) v ≡ true → is_up_to s.tail v ≡ true
   known_low s v known =
       elim (or_cases (is_same s.tail v) _ known) [
         | inl same ↦ same-up_to s.tail v same
@@ -231,6 +234,7 @@ module _ (g : Geometry) (positive : 0 < g.k * g.unit) where
         tail_low = whole.tail_low;
         firm_low = whole.firm_low;
         based = whole.based;
+        base_known = whole.base_known;
         alone = whole.alone;
       }
 
@@ -251,6 +255,7 @@ module _ (g : Geometry) (positive : 0 < g.k * g.unit) where
         tail_low = over s.tail whole.tail_low;
         firm_low = over s.firm whole.firm_low;
         based = whole.based;
+        base_known = whole.base_known;
         alone = λ p. absurd (false≢true (sym (not-true s.partial (and_parts (not s.partial) _ parts.0).0) ∙ p));
       }
   whole_after s (Rule (Back v)) whole fit =
@@ -269,6 +274,7 @@ module _ (g : Geometry) (positive : 0 < g.k * g.unit) where
         tail_low = subst (λ w. is_up_to s.tail w ≡ true) (sym last) low;
         firm_low = subst (λ w. is_up_to s.firm w ≡ true) (sym last) firm;
         based = whole.based;
+        base_known = whole.base_known;
         alone = λ p. absurd (false≢true (sym running ∙ p));
       }
   whole_after s (Rule (Firm v)) whole fit =
@@ -286,6 +292,7 @@ module _ (g : Geometry) (positive : 0 < g.k * g.unit) where
         tail_low = whole.tail_low;
         firm_low = held_low s v last whole;
         based = λ p. up_to-trans s.base_version s.firm v (whole.based running) firm;
+        base_known = whole.base_known;
         alone = whole.alone;
       }
   whole_after s (Rule (Trim v)) whole fit =
@@ -300,10 +307,14 @@ module _ (g : Geometry) (positive : 0 < g.k * g.unit) where
         tail_low = up_to-trans v s.firm (head s) parts.1 whole.firm_low;
         firm_low = whole.firm_low;
         based = whole.based;
+        base_known = λ p. elim (whole.base_known p) [
+          | inl low ↦ inl (up_to-trans s.base_version s.tail v low (known_low s v parts.0))
+          | inr past ↦ inr past
+        ];
         alone = whole.alone;
       }
   whole_after s (Rule (Started epoch)) whole fit =
-      record { held = whole.held; rising = whole.rising; fitting = whole.fitting; old = whole.old; closed = whole.closed; tail_known = whole.tail_known; tail_low = whole.tail_low; firm_low = whole.firm_low; based = whole.based; alone = whole.alone }
+      record { held = whole.held; rising = whole.rising; fitting = whole.fitting; old = whole.old; closed = whole.closed; tail_known = whole.tail_known; tail_low = whole.tail_low; firm_low = whole.firm_low; based = whole.based; base_known = whole.base_known; alone = whole.alone }
   whole_after s (Rule Partial) whole fit =
       record {
         held = ReplayLemmas.replayed_held g positive s.base s.entries whole.held whole.fitting;
@@ -315,13 +326,16 @@ module _ (g : Geometry) (positive : 0 < g.k * g.unit) where
         tail_low = whole.tail_low;
         firm_low = whole.firm_low;
         based = λ p. absurd (true≢false p);
+        base_known = λ p. absurd (true≢false p);
         alone = λ p. (refl, refl);
       }
   whole_after s (Copy (Put name size bytes attrs)) whole fit =
       let parts = and_parts s.partial _ fit in
       let rest = and_parts (length bytes == shard_len g size) (are_attrs attrs) (and_parts (nat_le size max_size) _ parts.1).1 in
-      let few : length attrs ≤ max_attrs = leb-true (length attrs) max_attrs (and_parts (nat_le (length attrs) max_attrs) _ rest.1).0 in
-      let brings : IsHeld g (brought size bytes attrs) = record { small = leb-true size max_size (and_parts (nat_le size max_size) _ parts.1).0; sized = eqb-true (length bytes) (shard_len g size) rest.0; few = omega (arith, few, few_pairs attrs) } in
+      let lists = and_parts (nat_le (length attrs) max_attrs) _ rest.1 in
+      let few : length attrs ≤ max_attrs = leb-true (length attrs) max_attrs lists.0 in
+      let short = pairs_short attrs (and_parts (fin.is_sorted (slice_cmp nat_cmp) attrs) (list_all is_short attrs) lists.1).1 in
+      let brings : IsHeld g (brought size bytes attrs) = record { small = leb-true size max_size (and_parts (nat_le size max_size) _ parts.1).0; sized = eqb-true (length bytes) (shard_len g size) rest.0; few = omega (arith, few, few_pairs attrs); short = short } in
       new_base s (put s.base name (Some (brought size bytes attrs))) whole parts.0 (ReplayLemmas.put_held g positive s.base name (Some (brought size bytes attrs)) whole.held brings)
   whole_after s (Copy (Drop name)) whole fit = new_base s (put s.base name None) whole fit (ReplayLemmas.put_held g positive s.base name None whole.held tt)
   whole_after s (Copy Clear) whole fit = new_base s fin.empty whole fit (λ q. subst (MayBeHeld g) (sym (fin.get-empty _ q)) tt)
@@ -337,6 +351,7 @@ module _ (g : Geometry) (positive : 0 < g.k * g.unit) where
         tail_low = subst (λ es. is_up_to v (last_version v es) ≡ true) (sym none.1) (up_to-refl v);
         firm_low = subst (λ es. is_up_to v (last_version v es) ≡ true) (sym none.1) (up_to-refl v);
         based = λ p. up_to-refl v;
+        base_known = λ p. inl (up_to-refl v);
         alone = λ p. absurd (false≢true p);
       }
 
@@ -351,11 +366,12 @@ module _ (g : Geometry) (positive : 0 < g.k * g.unit) where
     tail_low = refl;
     firm_low = refl;
     based = λ p. refl;
+    base_known = λ p. inl refl;
     alone = λ p. (refl, refl);
   }
 
   -- each replay is whole
-  whole_from : (s : Replay) (steps : List Step) (t : Replay) → IsWhole g s → replay_from g s steps ≡ Some t → IsWhole g t
+  pub whole_from : (s : Replay) (steps : List Step) (t : Replay) → IsWhole g s → replay_from g s steps ≡ Some t → IsWhole g t
   whole_from s [] t whole is = subst (IsWhole g) (some_is s t is) whole
   whole_from s (step ∷ steps) t whole is =
       elim (fits g (state_of g s) step) as (λ b. fits g (state_of g s) step ≡ b → cond b (replay_from g (replay_after g s step) steps) None ≡ Some t → IsWhole g t) [

@@ -2,15 +2,16 @@
 use Rattle.std.proofs.Common.{◌≡◌, ℕ, zero, suc, ◌<◌, ◌≤◌, Bool, true, false, cond, nat_le, ◌==◌, List, [], ◌∷◌, ◌++◌, length, refl, sym, ap, subst, ◌∙◌, Option, Some, None, arith}
 use Rattle.std.specs.List.{AllByRecursion, flat_map, list_all}
 use Rattle.std.proofs.lemmas.Bool.{and_parts, leb-true}
-use Rattle.std.proofs.lemmas.List.{append_assoc, append-nil}
+use Rattle.std.proofs.lemmas.List.{append-nil}
 use Rattle.std.proofs.lemmas.Bool.{eqb-true}
 use Rattle.ec_model.specs.Versions.{Version}
 use Rattle.ec_words.specs.Names.{is_name, is_name_byte}
 use Rattle.shard_model.specs.Changes.{Change, Write, Replace, Remove, SetAttr, RemoveAttr}
 use Rattle.shard_model.specs.Steps.{Back, Firm, Trim, Started, Partial, Put, Drop, Clear, Reset, Step, Enter, Rule, Copy}
-use Rattle.shard_model.specs.StepBytes.{version_bytes, name_bytes, counted_bytes, pair_bytes, pairs_bytes, head_bytes, step_bytes, HasWords, IsName, IsCounted, IsPair, ArePairs, IsWritableChange, IsWritable}
-use Rattle.shard_model.specs.StepReading.{Reader, AreBytes, IsReadingOf, mapped, both, read_byte, read_u32, read_u64, read_list, if_name, read_named, read_name, read_counted, version_from, read_version, read_pair, pushed, read_pairs, read_attrs, read_head, entry_of, write_of, replace_of, set_attr_of, put_of, reset_of, removed_of, read_write, read_replace, read_remove, read_set_attr, read_remove_attr, read_started, read_put, read_drop, read_reset, read_kind, read_step}
-use Rattle.shard_model.proofs.ReadingLemmas.{same_read, not_read, parts, on, both_reading, counted_reading, with_has, byte_reading, list_reading, u32_reading, u64_reading}
+use Rattle.shard_model.specs.StepBytes.{version_bytes, name_bytes, pair_bytes, pairs_bytes, head_bytes, step_bytes, HasWords, IsName, IsPair, ArePairs, IsWritableChange, IsWritable}
+use Rattle.shard_model.specs.StepReading.{AreBytes, IsReadingOf, mapped, both, read_byte, read_u32, read_list, if_name, read_named, read_name, read_counted, read_version, read_pair, pushed, read_pairs, read_attrs, read_head, entry_of, write_of, replace_of, set_attr_of, put_of, reset_of, removed_of, read_write, read_replace, read_remove, read_set_attr, read_remove_attr, read_started, read_put, read_drop, read_reset, read_kind, read_step}
+use Rattle.shard_model.proofs.ReadingLemmas.{same_read, not_read, parts, on, both_reading, counted_reading, with_has, byte_reading, list_reading, u32_reading, mapped_reads}
+pub use Rattle.ec_words.proofs.ReaderLemmas.{counted_list, version_reading}
 
 if_name_is : (name rest x after : List ℕ) (b : Bool) → is_name name ≡ b → ◌≡◌ {A = Option (List ℕ × List ℕ)} (cond b (Some (name, rest)) None) (Some (x, after))
     → IsName x × ((name ≡ x) × (rest ≡ after))
@@ -37,31 +38,6 @@ name_short name is =
 pub name_reading : IsReadingOf read_name name_bytes IsName
 name_reading =
     with_has read_name (counted_reading read_byte read_named length byte_reading named_reading) (λ x has. has.1) (λ x has. (name_short x has, has))
-
-pub counted_list : IsReadingOf read_counted counted_bytes IsCounted
-counted_list =
-    with_has read_counted (counted_reading read_u32 read_list length u32_reading list_reading) (λ x has. has.0) (λ x has. (has, tt))
-
--- values read in another form, which can be turned back
-mapped_reads : {X Y : Type 0} {Has : X → Type 0} {bytes_of : X → List ℕ} (f : X → Y) (reader : Reader X) (reading : IsReadingOf reader bytes_of Has)
-    (bytes_y : Y → List ℕ) (HasY : Y → Type 0) (tag : List ℕ) → ((x : X) → bytes_y (f x) ≡ tag ++ bytes_of x) → ((x : X) → Has x → HasY (f x))
-    → (text : List ℕ) (y : Y) (rest : List ℕ) → AreBytes text → mapped f reader text ≡ Some (y, rest) → HasY y × (tag ++ text ≡ bytes_y y ++ rest)
-mapped_reads {bytes_of = bytes_of} f reader reading bytes_y HasY tag same_bytes has_there text y rest all e =
-    let a = parts reader reading (λ x rest. Some (f x, rest)) text y rest all e in
-    let same = same_read (f a.x) y a.mid rest a.next in (
-      subst HasY same.0 (has_there a.x a.has),
-      ap (λ t. tag ++ t) a.is ∙ sym (append_assoc tag (bytes_of a.x) a.mid) ∙ ap (λ t. t ++ a.mid) (sym (same_bytes a.x))
-          ∙ (λ i. bytes_y (same.0 i) ++ same.1 i),
-    )
-
-pub version_reading : IsReadingOf read_version version_bytes HasWords
-unfolding version_bytes
-version_reading =
-    let two = both_reading read_u32 read_u64 u32_reading u64_reading in
-    record {
-      reads = mapped_reads version_from (both read_u32 read_u64) two version_bytes HasWords [] (λ x. refl) (λ x has. has);
-      spelled = λ v rest has. on (both read_u32 read_u64) two (λ x rest. Some (version_from x, rest)) (v.epoch, v.seq) rest has;
-    }
 
 pair_reading : IsReadingOf read_pair pair_bytes IsPair
 pair_reading = both_reading read_name read_counted name_reading counted_list

@@ -1,16 +1,17 @@
 -- An entry that is taken back leaves what was there before it.
-use Rattle.std.proofs.Common.{◌≡◌, ℕ, suc, ◌+◌, ◌-◌, ◌*◌, ◌/◌, ◌%◌, ◌<◌, ◌≤◌, min, Bool, true, false, cond, ◌||◌, is_some, List, [], ◌∷◌, length, take, drop, refl, sym, ap, subst, ◌∙◌, Option, Some, None, arith, nat_lt}
+use Rattle.std.proofs.Common.{◌≡◌, ℕ, suc, ◌+◌, ◌-◌, ◌*◌, ◌/◌, ◌%◌, ◌<◌, ◌≤◌, min, Bool, true, false, cond, ◌||◌, is_some, List, [], ◌∷◌, length, take, drop, refl, sym, ap, subst, ◌∙◌, Option, Some, None, arith, nat_lt, nat_le}
 use Rattle.std.proofs.lemmas.Grind.{common_steps, div_ceil_times}
 use Rattle.std.proofs.lemmas.List.{places, same_lists}
-use Rattle.std.proofs.lemmas.Bool.{false≢true, and_parts}
+use Rattle.std.proofs.lemmas.Bool.{false≢true, and_parts, leb-true}
 use Rattle.std.proofs.Math.Nat.{mul-le-mul_right, lt_of_mul-lt-mul_right}
 use Rattle.std.specs.Ordering.{nat_cmp}
 use Rattle.std.specs.Cmp.Lexicographic.{slice_cmp, nat_list_cmp_total}
 use Rattle.std.specs.FinMap as fin
-use Rattle.shard_model.specs.Limits.{max_size}
+use Rattle.shard_model.specs.Limits.{max_size, max_value}
 use Rattle.shard_model.specs.Objects.{ShardObject, Geometry, Named, shard_len, MayBeHeld}
 use Rattle.shard_model.specs.Changes.{Change, Write, Replace, Remove, SetAttr, RemoveAttr, changed, undo_of, restored, resized, written, fits_change}
 use Rattle.shard_model.proofs.PutLemmas.{put_back}
+use Rattle.shard_model.proofs.ShortLemmas.{none_short, set_short, removed_short}
 
 -- bytes cut back to their old length, with the old ones of the range in their place, are the old bytes
 bytes_back : (old some : List ℕ) (at n : ℕ) → length old ≤ n → at + length some ≤ n
@@ -68,13 +69,13 @@ pub held_after : (g : Geometry) (c : Change) (o : Option ShardObject) → MayBeH
 held_after g (Write fresh size at bytes) None held fit =
     let inside : at + length bytes ≤ shard_len g size = grind (arith, common_steps) in
     let small : size ≤ max_size = grind (arith, common_steps) in
-    record { small = small; sized = written_length bytes [] at (shard_len g size) inside; few = few_empty }
+    record { small = small; sized = written_length bytes [] at (shard_len g size) inside; few = few_empty; short = none_short }
 held_after g (Write fresh size at bytes) (Some o) held fit =
     let inside : at + length bytes ≤ shard_len g size = grind (arith, common_steps) in
     let small : size ≤ max_size = grind (arith, common_steps) in
-    record { small = small; sized = written_length bytes o.bytes at (shard_len g size) inside; few = held.few }
-held_after g (Replace size bytes) None held fit = record { small = grind (arith, common_steps); sized = grind (arith, common_steps); few = few_empty }
-held_after g (Replace size bytes) (Some o) held fit = record { small = grind (arith, common_steps); sized = grind (arith, common_steps); few = held.few }
+    record { small = small; sized = written_length bytes o.bytes at (shard_len g size) inside; few = held.few; short = held.short }
+held_after g (Replace size bytes) None held fit = record { small = grind (arith, common_steps); sized = grind (arith, common_steps); few = few_empty; short = none_short }
+held_after g (Replace size bytes) (Some o) held fit = record { small = grind (arith, common_steps); sized = grind (arith, common_steps); few = held.few; short = held.short }
 held_after g Remove o held fit = tt
 held_after g (SetAttr attr value) None held fit = tt
 held_after g (SetAttr attr value) (Some o) held fit =
@@ -82,6 +83,7 @@ held_after g (SetAttr attr value) (Some o) held fit =
       small = held.small;
       sized = held.sized;
       few = subst (λ n. n ≤ 64) (sym (fin.len-insert nat_list_cmp_total o.attrs attr value)) (few_set (is_some (fin.get o.attrs attr)) (fin.len o.attrs) held.few (and_parts _ _ fit).1);
+      short = set_short o.attrs attr value held.short (leb-true (length value) max_value (and_parts (nat_le (length value) max_value) _ fit).0);
     }
 held_after g (RemoveAttr attr) None held fit = tt
 held_after g (RemoveAttr attr) (Some o) held fit =
@@ -89,6 +91,7 @@ held_after g (RemoveAttr attr) (Some o) held fit =
       small = held.small;
       sized = held.sized;
       few = subst (λ n. n ≤ 64) (sym (fin.len-remove nat_list_cmp_total o.attrs attr)) (few_less (is_some (fin.get o.attrs attr)) (fin.len o.attrs) held.few);
+      short = removed_short o.attrs attr held.short;
     }
 
 abbrev attrs_from : List (List ℕ × List ℕ) → Named (List ℕ)

@@ -1,7 +1,6 @@
 -- What an entry does to the object of its name, and what takes it back. Source: Ceph developer guide, "Erasure Coded pool"
 -- (an entry is undone by the old size, the old attribute, a kept generation of the object or saved extents).
--- Three functions look at the kind of a change: `fits_change`, `changed` and `undo_of`; a further kind is a constructor and
--- a case of each.
+-- A further kind is a constructor, and a case of each function that looks at it: `git grep` for a constructor finds them.
 use Rattle.std.specs.Prelude.{ℕ, ◌+◌, ◌-◌, ◌%◌, Bool, false, ◌&&◌, ◌||◌, nat_lt, nat_le, ◌==◌, List, [], ◌++◌, length, take, drop, replicate, Option, Some, None, is_some}
 use Rattle.std.specs.FinMap as map
 use Rattle.shard_model.specs.Limits.{max_size, max_value, max_attrs}

@@ -1,29 +1,42 @@
--- Laws about the definitions of this crate. Source: this project. `s` is a replay that steps lead to, `steps` these.
-use Rattle.std.specs.Prelude.{◌≡◌, ◌⊎◌, ◌<◌, ◌*◌, ℕ, List, [], ◌∷◌, ◌++◌, length, replicate, true, Some, None}
-use Rattle.ec_model.specs.Versions.{Version, zero_version}
-use Rattle.shard_model.specs.Objects.{Geometry}
-use Rattle.shard_model.specs.Changes.{Change, Write, Replace, Extent, bytes_of, changed, undo_of, restored}
-use Rattle.shard_model.specs.Steps.{Step, Enter, Rule, Back, Started, Entry}
-use Rattle.shard_model.specs.States.{fits, state_after, holds}
-use Rattle.shard_model.specs.StepBytes.{step_bytes, steps_bytes, IsWritable}
-use Rattle.shard_model.specs.StepReading.{IsReadingOf, read_step}
+-- Laws about the definitions of this crate. Source: this project. `s` is a replay, `step` one that fits it.
+use Rattle.std.specs.Prelude.{◌≡◌, ◌⊎◌, ◌+◌, ◌<◌, ◌≤◌, ◌*◌, ℕ, List, [], ◌∷◌, ◌++◌, length, replicate, true, false, Some, None}
+use Rattle.ec_model.specs.Versions.{Version, is_up_to, zero_version}
+use Rattle.std.specs.FinMap as fin
+use Rattle.shard_model.specs.Objects.{ShardObject, Geometry, IsHeld, shard_len}
+use Rattle.shard_model.specs.Changes.{Change, Write, Replace, SetAttr, RemoveAttr, Extent, bytes_of, changed, undo_of, restored}
+use Rattle.shard_model.specs.Steps.{Step, Enter, Rule, Copy, Control, Back, Started, Put, Entry}
+use Rattle.shard_model.specs.States.{State, fits, state_after, is_known, holds, brought}
+use Rattle.shard_model.specs.StepBytes.{change_bytes, step_bytes, steps_bytes, IsName, IsWritable, AreSteps, IsFirstBad}
+use Rattle.shard_model.specs.StepReading.{AreBytes, IsReadingOf, read_step}
 use Rattle.shard_model.specs.Replays.{Replay, IsWhole, head, state_of, objects_at, replay_after, replay_from, replay_of}
 
--- steps lead to a replay, and one more fits
-pub record MayGoOn (g : Geometry) (steps : List Step) (s : Replay) (step : Step) : Type 0 where
+-- a whole replay, and a step that fits it
+pub record MayGoOn (g : Geometry) (s : Replay) (step : Step) : Type 0 where
   pub stripes : 0 < g.k * g.unit
-  pub led : replay_of g steps ≡ Some s
+  pub whole : IsWhole g s
   pub fit : fits g (state_of g s) step ≡ true
 
 -- a state that undoes comes to what replaying gives
 abbrev pub UndoingIsReplaying : Type 0
-UndoingIsReplaying = (g : Geometry) (steps : List Step) (s : Replay) (step : Step) → MayGoOn g steps s step
-    → state_of g (replay_after g s step) ≡ state_after g (state_of g s) step
+UndoingIsReplaying = (g : Geometry) (s : Replay) (step : Step) → MayGoOn g s step → state_of g (replay_after g s step) ≡ state_after g (state_of g s) step
 
 -- steps that go on after others are replayed from where these led
 abbrev pub ReplayGoesOn : Type 0
 ReplayGoesOn = (g : Geometry) (first more : List Step) (s t : Replay) → replay_from g s first ≡ Some t
     → replay_from g s (first ++ more) ≡ replay_from g t more
+
+-- of steps that lead on, the first fits, and the others lead on from where it leads
+abbrev pub FirstStepFits : Type 0
+FirstStepFits = (g : Geometry) (s t : Replay) (step : Step) (steps : List Step) → replay_from g s (step ∷ steps) ≡ Some t
+    → (fits g (state_of g s) step ≡ true) × (replay_from g (replay_after g s step) steps ≡ Some t)
+
+-- a replay stays whole with a step that fits, and with all that lead on
+pub record StaysWhole (g : Geometry) (s : Replay) : Type 0 where
+  pub one : (step : Step) → fits g (state_of g s) step ≡ true → IsWhole g (replay_after g s step)
+  pub all : (steps : List Step) (t : Replay) → replay_from g s steps ≡ Some t → IsWhole g t
+
+abbrev pub StepsKeepWhole : Type 0
+StepsKeepWhole = (g : Geometry) (s : Replay) → 0 < g.k * g.unit → IsWhole g s → StaysWhole g s
 
 -- every replay that steps lead to is whole
 abbrev pub ReplaysAreWhole : Type 0
@@ -33,9 +46,17 @@ ReplaysAreWhole = (g : Geometry) → 0 < g.k * g.unit → (steps : List Step) (s
 abbrev pub HeadIsPresent : Type 0
 HeadIsPresent = (g : Geometry) (s : Replay) → IsWhole g s → objects_at g s (head s) ≡ (state_of g s).objects
 
+-- a shard that is not being filled holds its head, and a version that it knows is not below its tail
+pub record HoldsHead (g : Geometry) (s : Replay) : Type 0 where
+  pub newest : s.partial ≡ false → holds (state_of g s) (head s) ≡ true
+  pub known : (v : Version) → is_known (state_of g s) v ≡ true → is_up_to s.tail v ≡ true
+
+abbrev pub HeadIsHeld : Type 0
+HeadIsHeld = (g : Geometry) (s : Replay) → 0 < g.k * g.unit → IsWhole g s → HoldsHead g s
+
 -- rolling back to a version gives the objects at it, and it is the head then
 abbrev pub GoingBackGivesThePast : Type 0
-GoingBackGivesThePast = (g : Geometry) (steps : List Step) (s : Replay) (v : Version) → MayGoOn g steps s (Rule (Back v))
+GoingBackGivesThePast = (g : Geometry) (s : Replay) (v : Version) → MayGoOn g s (Rule (Back v))
     → ((state_after g (state_of g s) (Rule (Back v))).objects ≡ objects_at g s v) × (head (replay_after g s (Rule (Back v))) ≡ v)
 
 -- after an entry each version that was held is held, with its objects, and no other but the new one
@@ -45,17 +66,48 @@ pub record KeepsHeld (g : Geometry) (s : Replay) (e : Entry) : Type 0 where
   pub objects : (v : Version) → holds (state_of g s) v ≡ true → objects_at g (replay_after g s (Enter e)) v ≡ objects_at g s v
 
 abbrev pub EntriesKeepHeld : Type 0
-EntriesKeepHeld = (g : Geometry) (steps : List Step) (s : Replay) (e : Entry) → MayGoOn g steps s (Enter e) → KeepsHeld g s e
+EntriesKeepHeld = (g : Geometry) (s : Replay) (e : Entry) → MayGoOn g s (Enter e) → KeepsHeld g s e
 
 -- after rolling back, what is held was held, and its objects are the same
 abbrev pub GoingBackKeepsThePast : Type 0
-GoingBackKeepsThePast = (g : Geometry) (steps : List Step) (s : Replay) (w v : Version) → MayGoOn g steps s (Rule (Back w))
+GoingBackKeepsThePast = (g : Geometry) (s : Replay) (w v : Version) → MayGoOn g s (Rule (Back w))
     → holds (state_of g (replay_after g s (Rule (Back w)))) v ≡ true
     → (holds (state_of g s) v ≡ true) × (objects_at g (replay_after g s (Rule (Back w))) v ≡ objects_at g s v)
 
 -- a step is read off its bytes, and off no others
 abbrev pub StepsAreRead : Type 0
 StepsAreRead = IsReadingOf read_step step_bytes IsWritable
+
+-- bytes are one list of steps, or have one first place where no step is spelled, and never both
+pub record IsReadOneWay (text : List ℕ) : Type 0 where
+  pub either : ((steps : List Step) × AreSteps text steps) ⊎ ((at : ℕ) × IsFirstBad text at)
+  pub one_list : (xs ys : List Step) → AreSteps text xs → AreSteps text ys → xs ≡ ys
+  pub one_place : (a b : ℕ) → IsFirstBad text a → IsFirstBad text b → a ≡ b
+  pub never_both : (steps : List Step) (at : ℕ) → AreSteps text steps → IsFirstBad text at → ⊥
+
+abbrev pub BytesAreReadOneWay : Type 0
+BytesAreReadOneWay = (text : List ℕ) → AreBytes text → IsReadOneWay text
+
+-- how many bytes a step has: an entry 281 at most beside those of its change, a control step 13 at most, an object that is
+-- brought 279,050 at most beside its own
+pub record StepLengths : Type 0 where
+  pub entry : (e : Entry) → length (step_bytes (Enter e)) ≡ 26 + (length e.name + length (change_bytes e.change))
+  pub bounded : (e : Entry) → IsName e.name → length (step_bytes (Enter e)) ≤ 281 + length (change_bytes e.change)
+  pub write : (fresh size at : ℕ) (bytes : List ℕ) → length (change_bytes (Write fresh size at bytes)) ≡ 13 + length bytes
+  pub replace : (size : ℕ) (bytes : List ℕ) → length (change_bytes (Replace size bytes)) ≡ 8 + length bytes
+  pub set_attr : (attr value : List ℕ) → length (change_bytes (SetAttr attr value)) ≡ 5 + (length attr + length value)
+  pub remove_attr : (attr : List ℕ) → length (change_bytes (RemoveAttr attr)) ≡ 1 + length attr
+  pub control : (c : Control) → length (step_bytes (Rule c)) ≤ 13
+  pub put : (g : Geometry) (s : State) (name : List ℕ) (size : ℕ) (bytes : List ℕ) (attrs : List (List ℕ × List ℕ)) → IsWritable (Copy (Put name size bytes attrs))
+      → fits g s (Copy (Put name size bytes attrs)) ≡ true → length (step_bytes (Copy (Put name size bytes attrs))) ≤ 279050 + shard_len g size
+
+-- an object of any shard fits where it is brought to one that is being filled, and is what is brought
+pub record MayBeBrought (g : Geometry) (name : List ℕ) (o : ShardObject) : Type 0 where
+  pub fit : (s : State) → s.partial ≡ true → fits g s (Copy (Put name o.size o.bytes (fin.entries o.attrs))) ≡ true
+  pub same : brought o.size o.bytes (fin.entries o.attrs) ≡ o
+
+abbrev pub HeldObjectsMayBeBrought : Type 0
+HeldObjectsMayBeBrought = (g : Geometry) (name : List ℕ) (o : ShardObject) → IsHeld g o → MayBeBrought g name o
 
 -- worked examples, each of which computes. Two data chunks in units of 32 bytes: the first record of a new shard, and what
 -- stands in the three slots after `full a 0102` in epoch 2

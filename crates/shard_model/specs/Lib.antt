@@ -8,5 +8,6 @@ pub mod Replays
 pub mod Shards
 pub mod States
 pub mod StepBytes
+pub mod StepCodes
 pub mod StepReading
 pub mod Steps

@@ -6,7 +6,7 @@ use Rattle.std.specs.Cmp.Lexicographic.{slice_cmp}
 use Rattle.std.specs.Coded.{Coded, code_by, coded×, coded_ℕ, coded_list}
 use Rattle.std.specs.FinMap as map
 use Rattle.ec_model.specs.Stripes as stripes
-use Rattle.shard_model.specs.Limits.{max_size, max_attrs}
+use Rattle.shard_model.specs.Limits.{max_size, max_value, max_attrs}
 
 -- values by name, in the order of the names' bytes
 abbrev pub Named : Type 0 → Type 0
@@ -42,11 +42,16 @@ pub record Geometry : Type 0 where
 abbrev pub shard_len : Geometry → ℕ → ℕ
 shard_len g size = stripes.shard_len g.k g.unit size
 
--- an object is not too large, has as many bytes as its size asks for, and no more attributes than it may
+-- no value of an attribute is too long
+abbrev pub AreShort : Named (List ℕ) → Type 0
+AreShort attrs = (attr value : List ℕ) → map.get attrs attr ≡ Some value → length value ≤ max_value
+
+-- an object is not too large, has as many bytes as its size asks for, and no more and no longer attributes than it may
 pub record IsHeld (g : Geometry) (o : ShardObject) : Type 0 where
   pub small : o.size ≤ max_size
   pub sized : length o.bytes ≡ shard_len g o.size
   pub few : map.len o.attrs ≤ max_attrs
+  pub short : AreShort o.attrs
 
 -- what is at a name, if anything
 abbrev pub MayBeHeld : Geometry → Option ShardObject → Type 0

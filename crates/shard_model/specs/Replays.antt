@@ -1,8 +1,8 @@
 -- What steps come to where entries are replayed from a base, and nothing is ever undone. Source: this project.
 use Rattle.std.specs.Prelude.{◌≡◌, ◌⊎◌, ℕ, Bool, true, false, cond, List, [], ◌∷◌, ◌++◌, Option, Some, None}
-use Rattle.std.specs.List.{AllByRecursion}
+use Rattle.std.specs.List.{AllByRecursion, list_any}
 use Rattle.std.specs.FinMap as fin
-use Rattle.ec_model.specs.Versions.{Version, is_up_to, zero_version}
+use Rattle.ec_model.specs.Versions.{Version, is_up_to, is_same, zero_version}
 use Rattle.shard_model.specs.Fronts.{up_to, after}
 use Rattle.shard_model.specs.Objects.{ShardObjects, Geometry, put, AreHeld}
 use Rattle.shard_model.specs.Changes.{Settled, fits_change}
@@ -133,5 +133,7 @@ pub record IsWhole (g : Geometry) (s : Replay) : Type 0 where
   pub tail_low : is_up_to s.tail (head s) ≡ true
   pub firm_low : is_up_to s.firm (head s) ≡ true
   pub based : s.partial ≡ false → is_up_to s.base_version s.firm ≡ true
+  -- the base's version is not above the tail, or is a checkpointed entry's
+  pub base_known : s.partial ≡ false → (is_up_to s.base_version s.tail ≡ true) ⊎ (list_any (λ n. is_same n.version s.base_version) s.past ≡ true)
   -- a shard that is being filled has no log
   pub alone : s.partial ≡ true → (s.past ≡ []) × (s.entries ≡ [])

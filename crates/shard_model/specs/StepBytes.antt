@@ -1,23 +1,17 @@
 -- Steps as bytes. Source: this project. Each number stands with its most significant byte first.
-use Rattle.std.specs.Prelude.{◌≡◌, ◌<◌, ◌^◌, ℕ, List, [], ◌∷◌, ◌++◌, length, true}
+use Rattle.std.specs.Prelude.{◌≡◌, ◌<◌, ℕ, List, [], ◌∷◌, ◌++◌, length, true}
 use Rattle.std.specs.List.{AllByRecursion, flat_map}
 use Rattle.std.specs.Int.{bytes_high_first}
 use Rattle.ec_model.specs.Versions.{Version}
 use Rattle.ec_words.specs.Names.{is_name}
+unfoldable pub use Rattle.ec_words.specs.Readers.{version_bytes}
+pub use Rattle.ec_words.specs.Readers.{counted_bytes, IsWord, HasWords, IsCounted}
 use Rattle.shard_model.specs.Changes.{Change, Write, Replace, Remove, SetAttr, RemoveAttr}
 use Rattle.shard_model.specs.Steps.{Back, Firm, Trim, Started, Partial, Put, Drop, Clear, Reset, Step, Enter, Rule, Copy}
-
--- the epoch in four bytes, the number in eight
-unfoldable pub version_bytes : Version → List ℕ
-version_bytes v = bytes_high_first 4 v.epoch ++ bytes_high_first 8 v.seq
 
 -- the length in a byte, and the name
 abbrev pub name_bytes : List ℕ → List ℕ
 name_bytes name = length name ∷ name
-
--- the length in four bytes, and the bytes
-abbrev pub counted_bytes : List ℕ → List ℕ
-counted_bytes bytes = bytes_high_first 4 (length bytes) ++ bytes
 
 -- an attribute's name and its value
 abbrev pub pair_bytes : List ℕ × List ℕ → List ℕ
@@ -66,18 +60,9 @@ step_bytes (Copy (Reset v epoch)) = 14 ∷ version_bytes v ++ bytes_high_first 4
 abbrev pub steps_bytes : List Step → List ℕ
 steps_bytes steps = flat_map step_bytes steps
 
--- numbers, names and lengths that have their place in the bytes
-abbrev pub IsWord : ℕ → Type 0
-IsWord n = n < 2 ^ 32
-
-abbrev pub HasWords : Version → Type 0
-HasWords v = IsWord v.epoch × (v.seq < 2 ^ 64)
-
+-- names and lists that have their place in the bytes
 abbrev pub IsName : List ℕ → Type 0
 IsName name = is_name name ≡ true
-
-abbrev pub IsCounted : List ℕ → Type 0
-IsCounted bytes = IsWord (length bytes)
 
 abbrev pub IsPair : List ℕ × List ℕ → Type 0
 IsPair attr = IsName attr.0 × IsCounted attr.1

@@ -1,52 +1,10 @@
--- How steps are read off bytes, from the front. Source: this project. `IsReadingOf` ties each reader to the bytes that it
--- reads.
-use Rattle.std.specs.Prelude.{◌≡◌, ◌<◌, ℕ, zero, suc, nat_le, ◌==◌, if◌then◌else◌, List, [], ◌∷◌, ◌++◌, length, take, drop, Option, Some, None}
-use Rattle.std.specs.List.{AllByRecursion}
-use Rattle.std.specs.Int.{w32, w64, from_be_bytes}
+-- How steps are read off bytes, from the front. Source: this project.
+use Rattle.std.specs.Prelude.{ℕ, zero, suc, ◌==◌, if◌then◌else◌, List, [], ◌∷◌, Some, None}
 use Rattle.ec_model.specs.Versions.{Version}
 use Rattle.ec_words.specs.Names.{is_name}
+pub use Rattle.ec_words.specs.Readers.{Reader, AreBytes, IsReadingOf, and_then, mapped, both, read_byte, read_u32, read_u64, read_list, read_counted, version_from, read_version}
 use Rattle.shard_model.specs.Changes.{Change, Write, Replace, Remove, SetAttr, RemoveAttr}
 use Rattle.shard_model.specs.Steps.{Back, Firm, Trim, Started, Partial, Put, Drop, Clear, Reset, Step, Enter, Rule, Copy}
-
--- from a text: what its front says, and the rest; or nothing where it says none
-abbrev pub Reader : Type 0 → Type 0
-Reader X = List ℕ → Option (X × List ℕ)
-
--- a text, all of whose bytes are bytes
-abbrev pub AreBytes : List ℕ → Type 0
-AreBytes text = AllByRecursion (λ b. b < 256) text
-
--- a reader reads exactly the values that have a place in the bytes, off these
-pub record IsReadingOf {X : Type 0} (reader : Reader X) (bytes_of : X → List ℕ) (Has : X → Type 0) : Type 0 where
-  pub reads : (text : List ℕ) (x : X) (rest : List ℕ) → AreBytes text → reader text ≡ Some (x, rest) → Has x × (text ≡ bytes_of x ++ rest)
-  pub spelled : (x : X) (rest : List ℕ) → Has x → reader (bytes_of x ++ rest) ≡ Some (x, rest)
-
--- what was read, and another reading of the rest
-abbrev pub and_then : {X Y : Type 0} → Option (X × List ℕ) → (X → Reader Y) → Option (Y × List ℕ)
-and_then None f = None
-and_then (Some p) f = f p.0 p.1
-
--- a reading in another form
-abbrev pub mapped : {X Y : Type 0} → (X → Y) → Reader X → Reader Y
-mapped f reader text = and_then (reader text) (λ x rest. Some (f x, rest))
-
--- one reading after another
-abbrev pub both : {X Y : Type 0} → Reader X → Reader Y → Reader (X × Y)
-both first second text = and_then (first text) (λ x rest. and_then (second rest) (λ y rest. Some ((x, y), rest)))
-
-abbrev pub read_byte : Reader ℕ
-read_byte [] = None
-read_byte (b ∷ rest) = Some (b, rest)
-
-abbrev pub read_u32 : Reader ℕ
-read_u32 text = if nat_le 4 (length text) then Some (from_be_bytes w32 (take 4 text), drop 4 text) else None
-
-abbrev pub read_u64 : Reader ℕ
-read_u64 text = if nat_le 8 (length text) then Some (from_be_bytes w64 (take 8 text), drop 8 text) else None
-
--- this many bytes
-abbrev pub read_list : ℕ → Reader (List ℕ)
-read_list n text = if nat_le n (length text) then Some (take n text, drop n text) else None
 
 abbrev pub if_name : List ℕ → Reader (List ℕ)
 if_name name rest = if is_name name then Some (name, rest) else None
@@ -56,15 +14,6 @@ read_named n text = and_then (read_list n text) if_name
 
 abbrev pub read_name : Reader (List ℕ)
 read_name text = and_then (read_byte text) read_named
-
-abbrev pub read_counted : Reader (List ℕ)
-read_counted text = and_then (read_u32 text) read_list
-
-abbrev pub version_from : ℕ × ℕ → Version
-version_from p = record { epoch = p.0; seq = p.1 }
-
-abbrev pub read_version : Reader Version
-read_version = mapped version_from (both read_u32 read_u64)
 
 -- an attribute's name and value
 abbrev pub read_pair : Reader (List ℕ × List ℕ)

@@ -1,5 +1,5 @@
 //! Laws about the definitions alone. Each is the contract of a function with an empty body.
-ghost use Rattle.shard_model.specs.Laws.{UndoingIsReplaying, ReplayGoesOn, ReplaysAreWhole, HeadIsPresent, GoingBackGivesThePast, EntriesKeepHeld, GoingBackKeepsThePast, StepsAreRead, WorkedBytes, WorkedWrites};
+ghost use Rattle.shard_model.specs.Laws.{UndoingIsReplaying, ReplayGoesOn, FirstStepFits, StepsKeepWhole, ReplaysAreWhole, HeadIsPresent, HeadIsHeld, GoingBackGivesThePast, EntriesKeepHeld, GoingBackKeepsThePast, StepsAreRead, BytesAreReadOneWay, StepLengths, HeldObjectsMayBeBrought, WorkedBytes, WorkedWrites};
 
 /// A state that undoes comes to what replaying from the base gives.
 pub fn undoing_is_replaying()
@@ -11,6 +11,16 @@ pub fn replay_goes_on()
     ensures { ReplayGoesOn }
 {}
 
+/// Of steps that lead on, the first fits, and the others lead on from where it leads.
+pub fn first_step_fits()
+    ensures { FirstStepFits }
+{}
+
+/// A whole replay stays whole with each step that fits.
+pub fn steps_keep_whole()
+    ensures { StepsKeepWhole }
+{}
+
 /// What each step keeps holds of every replay.
 pub fn replays_are_whole()
     ensures { ReplaysAreWhole }
@@ -19,6 +29,11 @@ pub fn replays_are_whole()
 /// The objects at the head are the present ones.
 pub fn head_is_present()
     ensures { HeadIsPresent }
+{}
+
+/// A shard that is not being filled can be rolled back to its head.
+pub fn head_is_held()
+    ensures { HeadIsHeld }
 {}
 
 /// Rolling back to a version gives the objects at it.
@@ -39,6 +54,21 @@ pub fn going_back_keeps_the_past()
 /// A step is read off its bytes, and off no others.
 pub fn steps_are_read()
     ensures { StepsAreRead }
+{}
+
+/// Bytes are one list of steps, or have one first place where none is spelled.
+pub fn bytes_are_read_one_way()
+    ensures { BytesAreReadOneWay }
+{}
+
+/// How many bytes a step has.
+pub fn step_lengths()
+    ensures { StepLengths }
+{}
+
+/// An object of any shard fits where it is brought to one that is being filled.
+pub fn held_objects_may_be_brought()
+    ensures { HeldObjectsMayBeBrought }
 {}
 
 /// Worked examples of steps as bytes.

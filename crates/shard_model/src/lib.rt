@@ -11,7 +11,8 @@
 mod laws;
 
 pub use laws::{
-    entries_keep_held, going_back_gives_the_past, going_back_keeps_the_past, head_is_present,
-    replay_goes_on, replays_are_whole, steps_are_read, undoing_is_replaying, worked_bytes,
-    worked_writes,
+    bytes_are_read_one_way, entries_keep_held, first_step_fits, going_back_gives_the_past,
+    going_back_keeps_the_past, head_is_held, head_is_present, held_objects_may_be_brought,
+    replay_goes_on, replays_are_whole, step_lengths, steps_are_read, steps_keep_whole,
+    undoing_is_replaying, worked_bytes, worked_writes,
 };

@@ -50,10 +50,13 @@ more_room g room more (Extent size at before) (Some o) le sound = sound
 more_room g room more (Kept before) o le sound = sound
 more_room g room more (Attr attr before) None le sound = tt
 more_room g room more (Attr attr None) (Some o) le sound = tt
-more_room g room more (Attr attr (Some value)) (Some o) le sound = elim sound [
-  | inl there ↦ inl there
-  | inr few ↦ inr (few.0, omega (arith, few.1, le))
-]
+more_room g room more (Attr attr (Some value)) (Some o) le sound = (
+  sound.0,
+  elim sound.1 [
+    | inl there ↦ inl there
+    | inr few ↦ inr (few.0, omega (arith, few.1, le))
+  ],
+)
 more_room g room more Settled o le sound = tt
 
 copies_sound : (g : Geometry) (m : ShardObjects) (olds news : List Recorded) → AreCopies olds news → AreSound g m olds → AreSound g m news

@@ -1,6 +1,6 @@
 -- A state keeps what it rests on where the log's bounds move or its objects are filled in.
 use Rattle.std.proofs.Common.{◌≡◌, ◌≤◌, ◌&&◌, ◌==◌, nat_le, length, arith, ℕ, zero, suc, Bool, true, false, cond, List, [], ◌∷◌, map, drop, refl, sym, ap, subst, ◌∙◌, Option, Some, None, is_some}
-use Rattle.std.specs.List.{AllByRecursion}
+use Rattle.std.specs.List.{AllByRecursion, list_all}
 use Rattle.std.proofs.lemmas.Bool.{cond-false, true≢false, and_parts, leb-true, eqb-true}
 use Rattle.std.specs.FinMap as fin
 use Rattle.ec_model.specs.Versions.{Version, is_up_to}
@@ -9,6 +9,7 @@ use Rattle.shard_model.specs.Changes.{Settled}
 use Rattle.shard_model.specs.States.{State, Logged, settled, undone, fits, are_attrs, brought}
 use Rattle.shard_model.specs.Limits.{max_size, max_attrs}
 use Rattle.shard_model.specs.Steps.{Copy, Put}
+use Rattle.shard_model.proofs.ShortLemmas.{is_short, pairs_short}
 use Rattle.shard_model.proofs.UndoLemmas.{few_pairs}
 use Rattle.shard_state.proofs.SpotLemmas.{by_name}
 use Rattle.shard_model.proofs.PutLemmas.{same_named, put_own}
@@ -109,6 +110,6 @@ brought_held g t name size bytes attrs fit =
       parts.0,
       (
         (and_parts (fin.is_sorted by_name attrs) _ lists.1).0,
-        record { small = leb-true size max_size sizes.0; sized = eqb-true (length bytes) (shard_len g size) rest.0; few = omega (arith, few, few_pairs attrs) },
+        record { small = leb-true size max_size sizes.0; sized = eqb-true (length bytes) (shard_len g size) rest.0; few = omega (arith, few, few_pairs attrs); short = pairs_short attrs (and_parts (fin.is_sorted by_name attrs) (list_all is_short attrs) lists.1).1 },
       ),
     )

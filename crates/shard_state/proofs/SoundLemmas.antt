@@ -10,6 +10,7 @@ use Rattle.shard_model.specs.Objects.{ShardObject, ShardObjects, Geometry, Named
 use Rattle.shard_model.specs.Changes.{Change, Write, Replace, Remove, SetAttr, RemoveAttr, Undo, Fresh, Extent, Kept, Attr, Settled, restored, changed, undo_of, whole_undo, written, resized, fits_change, bytes_of}
 use Rattle.shard_model.specs.States.{Logged, undone_one, undone}
 use Rattle.shard_model.proofs.PutLemmas.{is_name, is_name-refl}
+use Rattle.shard_model.proofs.ShortLemmas.{set_short, removed_short}
 use Rattle.shard_model.proofs.UndoLemmas.{shard_len-le, written_length}
 use Rattle.shard_state.specs.Doing.{HasRoomFor}
 use Rattle.shard_state.specs.Sound.{Recorded, logged_in, IsSound, AreSound}
@@ -67,11 +68,13 @@ whole_sound g room None x held = tt
 whole_sound g room (Some o) x held = held
 
 -- a value that was set is there
-set_sound : (g : Geometry) (room : ℕ) (attr value : List ℕ) (before : Option (List ℕ)) (o : ShardObject)
+set_sound : (g : Geometry) (room : ℕ) (attr value : List ℕ) (before : Option (List ℕ)) (o : ShardObject) → IsHeld g o → fin.get o.attrs attr ≡ before
     → IsSound g room (Attr attr before) (Some (record { bytes = o.bytes; size = o.size; attrs = fin.insert o.attrs attr value }))
-set_sound g room attr value None o = tt
-set_sound g room attr value (Some v) o =
-    inl (ap is_some (fin.get-insert nat_list_cmp_total o.attrs attr value attr ∙ cond-true (is_name attr attr) (Some value) (fin.get o.attrs attr) (is_name-refl attr)))
+set_sound g room attr value None o held is = tt
+set_sound g room attr value (Some v) o held is = (
+  held.short attr v is,
+  inl (ap is_some (fin.get-insert nat_list_cmp_total o.attrs attr value attr ∙ cond-true (is_name attr attr) (Some value) (fin.get o.attrs attr) (is_name-refl attr))),
+)
 
 fewer : (n room : ℕ) (b : Bool) → b ≡ true → n ≤ 64 → 0 < n → 64 ≤ room → (cond b (n - 1) n < 64) × (cond b (n - 1) n < room)
 fewer n room true is few some has = (omega (arith, few, some), omega (arith, few, some, has))
@@ -86,11 +89,11 @@ some_there m k is =
 
 -- where an attribute was taken away, there is room for it
 removed_sound : (g : Geometry) (room : ℕ) (attr : List ℕ) (o : ShardObject) → IsHeld g o → is_some (fin.get o.attrs attr) ≡ true → max_attrs ≤ room
-    → (before : Option (List ℕ)) → IsSound g room (Attr attr before) (Some (record { bytes = o.bytes; size = o.size; attrs = fin.remove o.attrs attr }))
-removed_sound g room attr o held is has None = tt
-removed_sound g room attr o held is has (Some v) =
+    → (before : Option (List ℕ)) → fin.get o.attrs attr ≡ before → IsSound g room (Attr attr before) (Some (record { bytes = o.bytes; size = o.size; attrs = fin.remove o.attrs attr }))
+removed_sound g room attr o held is has None old = tt
+removed_sound g room attr o held is has (Some v) old =
     let less = fewer (fin.len o.attrs) room (is_some (fin.get o.attrs attr)) is held.few (some_there o.attrs attr is) has in
-    inr (subst (λ n. (n < max_attrs) × (n < room)) (sym (fin.len-remove nat_list_cmp_total o.attrs attr)) less)
+    (held.short attr v old, inr (subst (λ n. (n < max_attrs) × (n < room)) (sym (fin.len-remove nat_list_cmp_total o.attrs attr)) less))
 
 -- what is kept of a change that fits is sound on what the change makes
 pub change_sound : (g : Geometry) → 0 < g.k * g.unit → (room : ℕ) (c : Change) (o : Option ShardObject) → MayBeHeld g o → fits_change g c o ≡ true → HasRoomFor c room
@@ -100,9 +103,9 @@ change_sound g positive room (Write fresh size at bytes) (Some o) held fit has =
 change_sound g positive room (Replace size bytes) o held fit has = whole_sound g room o (changed g (Replace size bytes) o) held
 change_sound g positive room Remove o held fit has = whole_sound g room o None held
 change_sound g positive room (SetAttr attr value) None held fit has = tt
-change_sound g positive room (SetAttr attr value) (Some o) held fit has = set_sound g room attr value (fin.get o.attrs attr) o
+change_sound g positive room (SetAttr attr value) (Some o) held fit has = set_sound g room attr value (fin.get o.attrs attr) o held refl
 change_sound g positive room (RemoveAttr attr) None held fit has = tt
-change_sound g positive room (RemoveAttr attr) (Some o) held fit has = removed_sound g room attr o held fit has (fin.get o.attrs attr)
+change_sound g positive room (RemoveAttr attr) (Some o) held fit has = removed_sound g room attr o held fit has (fin.get o.attrs attr) refl
 
 extent_written : (some old : List ℕ) (at n : ℕ) → (at + length some ≤ n) ⊎ (length some ≡ 0) → length (written at some (resized n old)) ≡ n
 extent_written some old at n (inl le) = written_length some old at n le
@@ -122,7 +125,7 @@ pub restored_held : (g : Geometry) (room : ℕ) (u : Undo) (o : Option ShardObje
 restored_held g room Fresh o held sound = tt
 restored_held g room (Extent size at before) None held sound = tt
 restored_held g room (Extent size at before) (Some o) held sound =
-    record { small = sound.0; sized = extent_written before o.bytes at (shard_len g size) sound.1.1; few = held.few }
+    record { small = sound.0; sized = extent_written before o.bytes at (shard_len g size) sound.1.1; few = held.few; short = held.short }
 restored_held g room (Kept before) o held sound = sound
 restored_held g room (Attr attr before) None held sound = tt
 restored_held g room (Attr attr None) (Some o) held sound =
@@ -130,12 +133,14 @@ restored_held g room (Attr attr None) (Some o) held sound =
       small = held.small;
       sized = held.sized;
       few = subst (λ n. n ≤ 64) (sym (fin.len-remove nat_list_cmp_total o.attrs attr)) (few_gone (is_some (fin.get o.attrs attr)) (fin.len o.attrs) held.few);
+      short = removed_short o.attrs attr held.short;
     }
 restored_held g room (Attr attr (Some value)) (Some o) held sound =
-    let either : (is_some (fin.get o.attrs attr) ≡ true) ⊎ (fin.len o.attrs < 64) = elim sound [ inl there ↦ inl there | inr less ↦ inr less.0 ] in
+    let either : (is_some (fin.get o.attrs attr) ≡ true) ⊎ (fin.len o.attrs < 64) = elim sound.1 [ inl there ↦ inl there | inr less ↦ inr less.0 ] in
     record {
       small = held.small;
       sized = held.sized;
       few = subst (λ n. n ≤ 64) (sym (fin.len-insert nat_list_cmp_total o.attrs attr value)) (few_back (is_some (fin.get o.attrs attr)) (fin.len o.attrs) o.attrs held.few either);
+      short = set_short o.attrs attr value held.short sound.0;
     }
 restored_held g room Settled o held sound = held

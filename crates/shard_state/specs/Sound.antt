@@ -3,7 +3,7 @@ use Rattle.std.specs.Prelude.{◌≡◌, ◌⊎◌, ◌<◌, ◌≤◌, ◌+◌,
 use Rattle.std.specs.List.{AllByRecursion}
 use Rattle.std.specs.FinMap as fin
 use Rattle.ec_model.specs.Versions.{Version, is_up_to}
-use Rattle.shard_model.specs.Limits.{max_size, max_attrs}
+use Rattle.shard_model.specs.Limits.{max_size, max_value, max_attrs}
 use Rattle.shard_model.specs.Objects.{ShardObject, ShardObjects, Geometry, Named, shard_len, IsHeld, AreHeld}
 use Rattle.shard_model.specs.Changes.{Undo, Fresh, Extent, Kept, Attr, Settled}
 use Rattle.shard_model.specs.States.{State, Logged, undone, settled}
@@ -16,7 +16,8 @@ pub record Recorded : Type 0 where
 abbrev pub logged_in : Recorded → Logged
 logged_in r = r.logged
 
--- the old bytes lie in what there is now; an attribute that is put back is there, or there is room for it
+-- the old bytes lie in what there is now; an attribute that is put back has a short value, and is there, or there is room
+-- for it
 abbrev pub IsSound : Geometry → ℕ → Undo → Option ShardObject → Type 0
 IsSound g room Fresh o = Unit {0}
 IsSound g room (Extent size at before) None = Unit {0}
@@ -26,7 +27,7 @@ IsSound g room (Kept before) o = IsHeld g before
 IsSound g room (Attr attr before) None = Unit {0}
 IsSound g room (Attr attr None) (Some o) = Unit {0}
 IsSound g room (Attr attr (Some value)) (Some o) =
-    (IsSome (fin.get o.attrs attr)) ⊎ ((fin.len o.attrs < max_attrs) × (fin.len o.attrs < room))
+    (length value ≤ max_value) × ((IsSome (fin.get o.attrs attr)) ⊎ ((fin.len o.attrs < max_attrs) × (fin.len o.attrs < room)))
 IsSound g room Settled o = Unit {0}
 
 -- each entry is sound on the objects that taking back the newer ones leaves

@@ -16,7 +16,7 @@ use std::cmp::Ordering;
 use std::marker::Model;
 
 /// The values of an object's attributes by their names. A contract sees the map.
-#[derive(Debug, Drop)]
+#[derive(Drop)]
 pub struct Attrs {
     list: Vec<(Name, Bytes)>,
 }
@@ -216,7 +216,7 @@ fn give_pair(list: &mut Vec<(Name, Bytes)>, spare: Spare, name: Name, value: Byt
 }
 
 /// Room for attributes. A contract sees for how many.
-#[derive(Debug, Drop)]
+#[derive(Drop)]
 pub(crate) struct Spare {
     list: Vec<(Name, Bytes)>,
 }

@@ -1,9 +1,13 @@
 //! Steps as bytes.
-ghost use Rattle.std.specs.Prelude.{◌≡◌, ◌<◌, ◌++◌, ◌∷◌, [], map, length, IfOk, OnOk};
+ghost use Rattle.std.specs.Prelude.{◌≡◌, ◌<◌, true, false, ◌++◌, ◌∷◌, [], map, length, IfOk, OnOk};
 ghost use Rattle.std.specs.List.{AllByRecursion};
-ghost use Rattle.shard_model.specs.StepBytes.{version_bytes, name_bytes, counted_bytes, pairs_bytes, head_bytes, step_bytes, steps_bytes, IsCounted, HasShortLists};
+ghost use Rattle.shard_model.specs.Changes.{Write};
+ghost use Rattle.shard_model.specs.StepBytes.{version_bytes, name_bytes, counted_bytes, pairs_bytes, head_bytes, change_bytes, change_number, step_bytes, steps_bytes, IsCounted, HasShortBytes, HasShortLists};
+ghost use Rattle.shard_model.specs.Steps.{Copy, Put};
+ghost use Rattle.shard_state.specs.Doing.{change_in, is_entry};
 ghost use Rattle.shard_state.specs.StepMeanings.{step_of};
 
+use crate::head::head_of;
 use crate::pairs::Pairs;
 use crate::step::Step;
 use ec_words::{Bytes, Name, NoMemory, Version, put_bytes, put_u32, put_u64};
@@ -21,102 +25,129 @@ pub fn encode_steps(alloc: Global, steps: &[Step]) -> Result<Bytes, NoMemory>
     Ok(out)
 }
 
+/// A step's kind and its fields.
 fn put_step(out: &mut Bytes, step: &Step) -> Result<(), NoMemory>
     requires { HasShortLists (step_of step.now) }
     ensures { OnOk result (out.new ≡ out.old ++ step_bytes (step_of step.now)) }
 {
+    match head_of(step) {
+        Some(head) => {
+            put_head(out, number_of(step), head.version, head.prior, head.name)?;
+            put_change(out, step)
+        }
+        None => put_other(out, step),
+    }
+}
+
+/// The kind of an entry's step.
+fn number_of(step: &Step) -> u8
+    requires { is_entry (step_of step.now) ≡ true }
+    ensures { result ≡ change_number (change_in (step_of step.now)) }
+{
+    match step {
+        Step::Write { .. } => 1,
+        Step::Replace { .. } => 2,
+        Step::Remove { .. } => 3,
+        Step::SetAttr { .. } => 4,
+        Step::RemoveAttr { .. } => 5,
+        _ => unreachable!(),
+    }
+}
+
+/// What follows the head of an entry's step.
+fn put_change(out: &mut Bytes, step: &Step) -> Result<(), NoMemory>
+    requires entry { is_entry (step_of step.now) ≡ true }
+    requires short { HasShortBytes (change_in (step_of step.now)) }
+    ensures { OnOk result (out.new ≡ out.old ++ change_bytes (change_in (step_of step.now))) }
+{
     match step {
         Step::Write {
-            version,
-            prior,
-            name,
             fresh,
             size,
             at,
             bytes,
-        } => {
-            put_head(out, 1, version, prior, name)?;
-            put_bytes(out, &[*fresh])?;
-            put_u32(out, *size)?;
-            put_u32(out, *at)?;
-            put_counted(out, bytes)
-        }
-        Step::Replace {
-            version,
-            prior,
-            name,
-            size,
-            bytes,
-        } => {
-            put_head(out, 2, version, prior, name)?;
+            ..
+        } => put_write(out, *fresh, *size, *at, bytes),
+        Step::Replace { size, bytes, .. } => {
             put_u32(out, *size)?;
             put_counted(out, bytes)
         }
-        Step::Remove {
-            version,
-            prior,
-            name,
-        } => put_head(out, 3, version, prior, name),
-        Step::SetAttr {
-            version,
-            prior,
-            name,
-            attr,
-            value,
-        } => {
-            put_head(out, 4, version, prior, name)?;
+        Step::Remove { .. } => Ok(()),
+        Step::SetAttr { attr, value, .. } => {
             put_name(out, attr)?;
             put_counted(out, value)
         }
-        Step::RemoveAttr {
-            version,
-            prior,
-            name,
-            attr,
-        } => {
-            put_head(out, 5, version, prior, name)?;
-            put_name(out, attr)
-        }
-        Step::Back(version) => {
-            put_bytes(out, &[6])?;
-            put_version(out, version)
-        }
+        Step::RemoveAttr { attr, .. } => put_name(out, attr),
+        _ => unreachable!(),
+    }
+}
+
+fn put_write(out: &mut Bytes, fresh: u8, size: u32, at: u32, bytes: &Bytes) -> Result<(), NoMemory>
+    requires { IsCounted bytes.now }
+    ensures { OnOk result (out.new ≡ out.old ++ change_bytes (Write fresh size at bytes.now)) }
+{
+    put_bytes(out, &[fresh])?;
+    put_u32(out, size)?;
+    put_u32(out, at)?;
+    put_counted(out, bytes)
+}
+
+/// A step that is no entry.
+fn put_other(out: &mut Bytes, step: &Step) -> Result<(), NoMemory>
+    requires other { is_entry (step_of step.now) ≡ false }
+    requires short { HasShortLists (step_of step.now) }
+    ensures { OnOk result (out.new ≡ out.old ++ step_bytes (step_of step.now)) }
+{
+    match step {
+        Step::Back(version) => put_kind_and_version(out, 6, version),
         Step::Started(epoch) => {
             put_bytes(out, &[7])?;
             put_u32(out, *epoch)
         }
-        Step::Firm(version) => {
-            put_bytes(out, &[8])?;
-            put_version(out, version)
-        }
-        Step::Trim(version) => {
-            put_bytes(out, &[9])?;
-            put_version(out, version)
-        }
+        Step::Firm(version) => put_kind_and_version(out, 8, version),
+        Step::Trim(version) => put_kind_and_version(out, 9, version),
         Step::Partial => put_bytes(out, &[10]),
         Step::Put {
             name,
             size,
             bytes,
             attrs,
-        } => {
-            put_bytes(out, &[11])?;
-            put_name(out, name)?;
-            put_u32(out, *size)?;
-            put_counted(out, bytes)?;
-            put_attrs(out, attrs)
-        }
+        } => put_object(out, name, *size, bytes, attrs),
         Step::Drop(name) => {
             put_bytes(out, &[12])?;
             put_name(out, name)
         }
         Step::Clear => put_bytes(out, &[13]),
         Step::Reset(version, epoch) => {
-            put_bytes(out, &[14])?;
-            put_version(out, version)?;
+            put_kind_and_version(out, 14, version)?;
             put_u32(out, *epoch)
         }
+        _ => unreachable!(),
     }
+}
+
+fn put_kind_and_version(out: &mut Bytes, kind: u8, version: &Version) -> Result<(), NoMemory>
+    ensures { OnOk result (out.new ≡ out.old ++ (kind ∷ version_bytes version.now)) }
+{
+    put_bytes(out, &[kind])?;
+    put_version(out, version)
+}
+
+fn put_object(
+    out: &mut Bytes,
+    name: &Name,
+    size: u32,
+    bytes: &Bytes,
+    attrs: &Pairs,
+) -> Result<(), NoMemory>
+    requires { HasShortLists (Copy (Put name.now size bytes.now attrs.now)) }
+    ensures { OnOk result (out.new ≡ out.old ++ step_bytes (Copy (Put name.now size bytes.now attrs.now))) }
+{
+    put_bytes(out, &[11])?;
+    put_name(out, name)?;
+    put_u32(out, size)?;
+    put_counted(out, bytes)?;
+    put_attrs(out, attrs)
 }
 
 fn put_version(out: &mut Bytes, version: &Version) -> Result<(), NoMemory>

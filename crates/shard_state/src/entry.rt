@@ -3,7 +3,7 @@ use crate::held::Held;
 use ec_words::{Bytes, Name, Version};
 
 /// What an entry did.
-#[derive(Clone, Copy, Debug, PartialEq, Eq)]
+#[derive(Clone, Copy)]
 pub enum Kind {
     Write,
     Replace,
@@ -13,7 +13,7 @@ pub enum Kind {
 }
 
 /// What takes an entry back.
-#[derive(Debug, Drop)]
+#[derive(Drop)]
 pub enum Undo {
     /// There was no object.
     Fresh,
@@ -28,7 +28,7 @@ pub enum Undo {
 }
 
 /// An entry: its version, the one before it, the object's name, and what was done to it.
-#[derive(Debug, Drop)]
+#[derive(Drop)]
 pub struct Logged {
     pub version: Version,
     pub prior: Version,
@@ -37,7 +37,7 @@ pub struct Logged {
 }
 
 /// An entry, and what takes it back.
-#[derive(Debug, Drop)]
+#[derive(Drop)]
 pub struct Entry {
     pub what: Logged,
     pub undo: Undo,

@@ -49,7 +49,7 @@ pub enum UndoFault {
 }
 
 /// Why the front of a text was not read.
-#[derive(Clone, Copy, Debug, PartialEq, Eq)]
+#[derive(Clone, Copy)]
 pub(crate) enum Unread {
     /// The text does not begin with what was asked for.
     NoStep,

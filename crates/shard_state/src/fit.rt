@@ -1,5 +1,5 @@
 //! Whether a change fits an object.
-ghost use Rattle.std.specs.Prelude.{◌≡◌, ◌+◌, ◌||◌, ◌&&◌, ◌==◌, nat_le, nat_lt, is_some, length};
+ghost use Rattle.std.specs.Prelude.{◌≡◌, ◌+◌, ◌||◌, ◌&&◌, ◌==◌, true, nat_le, nat_lt, is_some, length};
 ghost use Rattle.std.specs.Ordering.{nat_cmp, is_lt};
 ghost use Rattle.std.specs.Cmp.Lexicographic.{slice_cmp};
 ghost use Rattle.std.specs.FinMap as map;
@@ -9,20 +9,37 @@ ghost use Rattle.shard_model.specs.Limits.{max_attrs, max_size, max_value};
 ghost use Rattle.shard_model.specs.Changes.{fits_change, fits_extent, Write, Replace, SetAttr, RemoveAttr};
 ghost use Rattle.shard_model.specs.States.{are_attrs};
 ghost use Rattle.ec_model.specs.Stripes.{shard_len};
+ghost use Rattle.shard_state.specs.Doing.{change_in, is_entry};
+ghost use Rattle.shard_state.specs.StepMeanings.{step_of};
 
 use crate::change::bytes_of_size;
 use crate::held::Held;
 use crate::limits::{MAX_ATTRS, MAX_SIZE, MAX_VALUE};
+use crate::step::Step;
 use ec_words::{Bytes, Geometry, Name};
 
-pub(crate) fn fits_write(
-    g: Geometry,
-    held: Option<&Held>,
-    fresh: u8,
-    size: u32,
-    at: u32,
-    bytes: &[u8],
-) -> bool
+/// Whether an entry's change may be made to an object, or where there is none.
+pub(crate) fn fits_entry(g: Geometry, step: &Step, held: Option<&Held>) -> bool
+    requires { is_entry (step_of step.now) ≡ true }
+    ensures { result ≡ fits_change (record { k = g.k; unit = g.unit }) (change_in (step_of step.now)) (option_copied held.entry) }
+{
+    match step {
+        Step::Write {
+            fresh,
+            size,
+            at,
+            bytes,
+            ..
+        } => fits_write(g, held, *fresh, *size, *at, bytes.as_slice()),
+        Step::Replace { size, bytes, .. } => fits_replace(g, *size, bytes.as_slice()),
+        Step::Remove { .. } => held.is_some(),
+        Step::SetAttr { attr, value, .. } => fits_set_attr(g, held, attr, value.as_slice()),
+        Step::RemoveAttr { attr, .. } => fits_remove_attr(g, held, attr),
+        _ => unreachable!(),
+    }
+}
+
+fn fits_write(g: Geometry, held: Option<&Held>, fresh: u8, size: u32, at: u32, bytes: &[u8]) -> bool
     ensures { result ≡ fits_change (record { k = g.k; unit = g.unit }) (Write fresh size at bytes.now) (option_copied held.entry) }
 {
     match held {
@@ -46,13 +63,13 @@ fn lies_inside(at: u32, len: usize, end: usize) -> bool
     len <= end && at as usize <= end - len
 }
 
-pub(crate) fn fits_replace(g: Geometry, size: u32, bytes: &[u8]) -> bool
+fn fits_replace(g: Geometry, size: u32, bytes: &[u8]) -> bool
     ensures { (o : _) → result ≡ fits_change (record { k = g.k; unit = g.unit }) (Replace size bytes.now) o }
 {
     size <= MAX_SIZE && bytes.len() == bytes_of_size(g, size)
 }
 
-pub(crate) fn fits_set_attr(g: Geometry, held: Option<&Held>, attr: &Name, value: &[u8]) -> bool
+fn fits_set_attr(g: Geometry, held: Option<&Held>, attr: &Name, value: &[u8]) -> bool
     ensures { result ≡ fits_change (record { k = g.k; unit = g.unit }) (SetAttr attr.now value.now) (option_copied held.entry) }
 {
     match held {
@@ -67,7 +84,7 @@ fn has_or_may_have(held: &Held, attr: &Name) -> bool
     held.attrs.get(attr).is_some() || held.attrs.len() < MAX_ATTRS
 }
 
-pub(crate) fn fits_remove_attr(g: Geometry, held: Option<&Held>, attr: &Name) -> bool
+fn fits_remove_attr(g: Geometry, held: Option<&Held>, attr: &Name) -> bool
     ensures { result ≡ fits_change (record { k = g.k; unit = g.unit }) (RemoveAttr attr.now) (option_copied held.entry) }
 {
     match held {

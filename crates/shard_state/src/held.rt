@@ -9,7 +9,7 @@ use std::alloc::Global;
 use std::marker::Model;
 
 /// An object in a shard: the bytes of its position, the size of the whole object, and its attributes.
-#[derive(Debug, Drop)]
+#[derive(Drop)]
 pub struct Held {
     pub bytes: Bytes,
     pub size: u32,

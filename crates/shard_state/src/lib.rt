@@ -17,6 +17,7 @@ mod encoding;
 mod entry;
 mod fault;
 mod fit;
+mod head;
 mod held;
 mod kinds;
 mod limits;

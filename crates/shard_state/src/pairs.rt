@@ -5,7 +5,7 @@ use ec_words::{Bytes, Name};
 use std::marker::Model;
 
 /// Names of attributes with their values, as a `Put` carries them. A contract sees the list.
-#[derive(Debug, Drop)]
+#[derive(Drop)]
 pub struct Pairs {
     list: Vec<(Name, Bytes)>,
 }

@@ -25,7 +25,8 @@ use crate::attrs::Attrs;
 use crate::copying::copy_log;
 use crate::entry::{Entry, Kind, Logged, Undo};
 use crate::fault::{StepFault, UndoFault};
-use crate::fit::{fits_put, fits_remove_attr, fits_replace, fits_set_attr, fits_write};
+use crate::fit::{fits_entry, fits_put};
+use crate::head::head_of;
 use crate::held::Held;
 use crate::limits::SEQ_LIMIT;
 use crate::log::{front_len, is_logged, settle_to, take_off};
@@ -277,59 +278,21 @@ impl ShardState {
     pub fn fits(&self, step: &Step) -> bool
         ensures { result ≡ fits self.now.geometry self.now.state (step_of step.now) }
     {
+        match head_of(step) {
+            Some(head) => {
+                self.follows(head.version, head.prior)
+                    && fits_entry(self.geometry, step, self.object(head.name))
+            }
+            None => self.fits_other(step),
+        }
+    }
+
+    /// Whether a step that is no entry may come now.
+    fn fits_other(&self, step: &Step) -> bool
+        requires { is_entry (step_of step.now) ≡ false }
+        ensures { result ≡ fits self.now.geometry self.now.state (step_of step.now) }
+    {
         match step {
-            Step::Write {
-                version,
-                prior,
-                name,
-                fresh,
-                size,
-                at,
-                bytes,
-            } => {
-                self.follows(version, prior)
-                    && fits_write(
-                        self.geometry,
-                        self.object(name),
-                        *fresh,
-                        *size,
-                        *at,
-                        bytes.as_slice(),
-                    )
-            }
-            Step::Replace {
-                version,
-                prior,
-                size,
-                bytes,
-                ..
-            } => {
-                self.follows(version, prior) && fits_replace(self.geometry, *size, bytes.as_slice())
-            }
-            Step::Remove {
-                version,
-                prior,
-                name,
-            } => { self.follows(version, prior) && self.object(name).is_some() }
-            Step::SetAttr {
-                version,
-                prior,
-                name,
-                attr,
-                value,
-            } => {
-                self.follows(version, prior)
-                    && fits_set_attr(self.geometry, self.object(name), attr, value.as_slice())
-            }
-            Step::RemoveAttr {
-                version,
-                prior,
-                name,
-                attr,
-            } => {
-                self.follows(version, prior)
-                    && fits_remove_attr(self.geometry, self.object(name), attr)
-            }
             Step::Back(version) => !self.partial && self.holds(*version),
             Step::Started(epoch) => !self.partial && self.les < *epoch,
             Step::Firm(version) => !self.partial && self.holds(*version),
@@ -348,6 +311,7 @@ impl ShardState {
             Step::Drop(_) => self.partial,
             Step::Clear => self.partial,
             Step::Reset(version, _) => self.partial && version.seq < SEQ_LIMIT,
+            _ => unreachable!(),
         }
     }
 
@@ -374,36 +338,20 @@ impl ShardState {
         ensures ok { OnOk result (self.new ≡ stepped self.old (step_of step.now)) }
         ensures unchanged { OnErr result (self.new ≡ self.old) }
     {
+        match head_of(step) {
+            Some(head) => self.enter(step, head.version, head.prior, head.name, head.kind),
+            None => self.perform_other(step),
+        }
+    }
+
+    /// Does a step that fits and is no entry.
+    fn perform_other(&mut self, step: &Step) -> Result<(), NoMemory>
+        requires other { is_entry (step_of step.now) ≡ false }
+        requires fits { fits self.old.geometry self.old.state (step_of step.now) ≡ true }
+        ensures ok { OnOk result (self.new ≡ stepped self.old (step_of step.now)) }
+        ensures unchanged { OnErr result (self.new ≡ self.old) }
+    {
         match step {
-            Step::Write {
-                version,
-                prior,
-                name,
-                ..
-            } => self.enter(step, version, prior, name, Kind::Write),
-            Step::Replace {
-                version,
-                prior,
-                name,
-                ..
-            } => self.enter(step, version, prior, name, Kind::Replace),
-            Step::Remove {
-                version,
-                prior,
-                name,
-            } => self.enter(step, version, prior, name, Kind::Remove),
-            Step::SetAttr {
-                version,
-                prior,
-                name,
-                ..
-            } => self.enter(step, version, prior, name, Kind::SetAttr),
-            Step::RemoveAttr {
-                version,
-                prior,
-                name,
-                ..
-            } => self.enter(step, version, prior, name, Kind::RemoveAttr),
             Step::Put {
                 name,
                 size,
@@ -575,8 +523,3 @@ fn brought(alloc: Global, size: u32, bytes: &Bytes, attrs: &Pairs) -> Result<Hel
     let attrs = Attrs::from_pairs(alloc, attrs)?;
     Ok(Held { bytes, size, attrs })
 }
-
-#[cfg(test)]
-mod random_steps;
-#[cfg(test)]
-mod tests;

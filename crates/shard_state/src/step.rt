@@ -4,7 +4,7 @@ use ec_words::{Bytes, Name, Version};
 
 /// A step of a shard: what a record of its journal is made of. A size is that of the whole object, the bytes are those of the
 /// shard's position. Entries come first, then what moves the bounds of the log, then what fills a partial shard.
-#[derive(Debug, Drop)]
+#[derive(Drop)]
 pub enum Step {
     /// Bytes from `at` on, in whole units; `fresh` is 1 where there is no object yet, and else 0.
     Write {

@@ -6,7 +6,7 @@ use crate::step::Step;
 use std::marker::Model;
 
 /// Steps in their order. A contract sees the list of what they mean.
-#[derive(Debug, Drop)]
+#[derive(Drop)]
 pub struct Steps {
     list: Vec<Step>,
 }

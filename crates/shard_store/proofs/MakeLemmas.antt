@@ -10,7 +10,7 @@ use Rattle.shard_model.specs.Shards.{Shard}
 use Rattle.shard_model.specs.StepBytes.{steps_bytes, IsWritable, AreSteps}
 use Rattle.shard_model.specs.Steps.{Step}
 use Rattle.slot_journal.specs.InUse.{Areas, text_in_use}
-use Rattle.slot_journal.specs.Text.{IsText, IsSomeText, record_bytes, records}
+use Rattle.slot_journal.specs.Text.{IsText, record_bytes, records}
 use Rattle.slot_journal.specs.Writing.{next_gate}
 use Rattle.slot_journal.specs.Journal.{slot_of, Holds, InSlot, Makes}
 use Rattle.shard_store.specs.Stories.{fresh_shard, shard_after, AreFitting, AreSpelled, AreTold, HasShard, IsBadAmong, IsBadStory, shard_head, first_steps}
@@ -85,14 +85,13 @@ module _ (g : Geometry) (partial : Bool) (t : Told) (first : t ≡ first_told g 
     fitting = first_fitting g partial;
   }
 
-  makes : (reads : ℕ → Option (List ℕ)) (before after : Areas) → Makes reads head body before after → MakesShard reads g head (first_steps partial) before after
-  makes reads before after step = record {
-    others = step.others;
+  makes : (slot : ℕ) (reads : ℕ → Option (List ℕ)) (before after : Areas) → Makes slot reads head body before after → MakesShard slot reads g head (first_steps partial) before after
+  makes slot reads before after step = record {
     texts = λ text told. ⊎_elim
-        (λ (same : text_in_use after ≡ text_in_use before). inl same)
-        (λ (rest : (IsSomeText (text_in_use after) → ⊥) ⊎ IsText head (body ∷ []) (next_gate 24 body) (text_in_use after)). ⊎_elim
-        (λ (none : IsSomeText (text_in_use after) → ⊥). inr (inl none))
-        (λ (new : IsText head (body ∷ []) (next_gate 24 body) (text_in_use after)). inr (inr (first_shard (text_in_use after) new)))
+        (λ (same : text_in_use slot after ≡ text_in_use slot before). inl same)
+        (λ (rest : (length (text_in_use slot after) < 24) ⊎ IsText head (body ∷ []) (next_gate 24 body) (text_in_use slot after)). ⊎_elim
+        (λ (none : length (text_in_use slot after) < 24). inr (inl none))
+        (λ (new : IsText head (body ∷ []) (next_gate 24 body) (text_in_use slot after)). inr (inr (first_shard (text_in_use slot after) new)))
         rest)
         (step.texts text told);
   }
@@ -101,15 +100,15 @@ module _ (g : Geometry) (partial : Bool) (t : Told) (first : t ≡ first_told g 
     abbrev Now : Image → List ℕ → Type 0
     Now image said = images old (clock old) image said
 
-    pub make_moments : (wanted : List ℕ) → head ≡ wanted → During clock images old new (InSlot Now slot (Makes reads head body))
-        → During clock images old new (InSlot Now slot (MakesShard reads g wanted (first_steps partial)))
-    make_moments wanted is run = subst (λ h. During clock images old new (InSlot Now slot (MakesShard reads g h (first_steps partial)))) is
-        (weaker clock images old new (InSlot Now slot (Makes reads head body)) (InSlot Now slot (MakesShard reads g head (first_steps partial))) run
+    pub make_moments : (wanted : List ℕ) → head ≡ wanted → During clock images old new (InSlot Now slot (Makes slot reads head body))
+        → During clock images old new (InSlot Now slot (MakesShard slot reads g wanted (first_steps partial)))
+    make_moments wanted is run = subst (λ h. During clock images old new (InSlot Now slot (MakesShard slot reads g h (first_steps partial)))) is
+        (weaker clock images old new (InSlot Now slot (Makes slot reads head body)) (InSlot Now slot (MakesShard slot reads g head (first_steps partial))) run
         (λ image said one. record {
           source = one.source;
           was = one.was;
           others = one.others;
-          stepped = makes reads (one.source slot) (image slot) one.stepped;
+          stepped = makes slot reads (one.source slot) (image slot) one.stepped;
         }))
 
 -- a record begins before the closed gate

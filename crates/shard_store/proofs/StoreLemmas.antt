@@ -11,7 +11,7 @@ use Rattle.slot_journal.specs.Text.{IsText}
 use Rattle.slot_journal.specs.Writing.{IsBeforeOrAfter, next_gate}
 use Rattle.slot_journal.specs.Journal.{gate_of, InSlot, Commits}
 use Rattle.shard_store.specs.Stories.{fresh_shard, shard_after, AreFitting, AreSpelled, HasShard}
-use Rattle.shard_store.specs.Stored.{slot_in, head_in, IsStored, Flushes}
+use Rattle.shard_store.specs.Stored.{slot_in, head_in, gate_behind, IsStored, Flushes}
 use Rattle.shard_store.specs.Told.{Told, IsTold, IsSound, IsAccepted, unflushed_bytes, all_accepted, all_flushed}
 use Rattle.shard_store.specs.declared.store.Store.{Store}
 use Rattle.shard_store.proofs.StoryLemmas.{after_append, fitting_append, fitting_front, all_append, bytes_append}
@@ -36,6 +36,11 @@ no_bytes (x ∷ xs) none = absurd (omega (arith, ap length none, has_kind x, len
 pub some_length : (bytes : List ℕ) → (bytes ≡ [] → ⊥) → 1 ≤ length bytes
 some_length [] some = absurd (some refl)
 some_length (b ∷ bytes) some = omega arith
+
+-- the gate behind a record that is some bytes
+pub gate_moved : (gate next : ℕ) (body pending : List ℕ) → (pending ≡ [] → ⊥) → body ≡ pending → next ≡ next_gate gate body → next ≡ gate_behind gate pending
+gate_moved gate next body [] some is moved = absurd (some refl)
+gate_moved gate next body (b ∷ bytes) some is moved = moved ∙ ap (λ l. next_gate gate l) is
 
 -- where nothing is staged, the bytes in no record are the pending ones
 pub pending_alone : (t : Told) → IsAccepted t → unflushed_bytes t ≡ t.pending
@@ -113,8 +118,8 @@ module _ (reads : ℕ → ℕ → Option (List ℕ)) (images : Image → List �
   pub flushes : (body : List ℕ) (before after : Areas) → body ≡ unflushed_bytes store.story → Commits reads images store.journal body before after → Flushes reads images store before after
   flushes body before after is commits = record {
     others = commits.others;
-    shards = λ text flushed pending stored. either stored.bodies (text_in_use after) flushed pending stored.told stored.spelled
-        (subst (λ b. IsBeforeOrAfter (head_in store) stored.bodies b (gate_of store.journal) (text_in_use after)) is
+    shards = λ text flushed pending stored. either stored.bodies (text_in_use (slot_in store) after) flushed pending stored.told stored.spelled
+        (subst (λ b. IsBeforeOrAfter (head_in store) stored.bodies b (gate_of store.journal) (text_in_use (slot_in store) after)) is
         (commits.records (head_in store) stored.bodies text stored.holds));
   }
 

@@ -2,6 +2,7 @@ pub mod Codes
 pub mod Inner
 pub mod Laws
 pub mod Lending
+pub mod Limits
 pub mod Ranges
 pub mod Seconds
 pub mod Shelved

@@ -18,6 +18,9 @@ mod store;
 mod story;
 
 pub use fault::StoreFault;
-pub use laws::shards_are_replays;
+pub use laws::{
+    bad_texts_have_no_story, shards_are_replays, stored_goes_on, stores_stay_stored,
+    texts_have_one_story,
+};
 pub use shelf::{FetchFault, Shelf};
 pub use store::Store;

@@ -1,10 +1,14 @@
 //! The stores of a pool's slots, and the bytes of their objects.
-ghost use Rattle.std.specs.Prelude.{◌≡◌, ◌<◌, ◌+◌, ◌-◌, ◌^◌, ℕ, length, min, Some, None, IfErr, IfSome, OnOk, OnErr};
+ghost use Rattle.std.specs.Prelude.{◌≡◌, ◌⊎◌, ◌≤◌, ◌<◌, ◌↔◌, ◌+◌, ℕ, length, min, Some, None, Err, IfErr, IfSome, OnOk, OnErr};
 ghost use Rattle.std.specs.Borrow.{sem};
 ghost use Rattle.std.specs.Option.{option_copied, option_copied_mut};
+ghost use Rattle.rig_disk.specs.Faults.{count_limit};
+ghost use Rattle.rig_disk.specs.Frame.{Adds};
+ghost use Rattle.slot_journal.specs.Reading.{OnlyReads};
 ghost use Rattle.shard_store.specs.Told.{IsAccepted};
-ghost use Rattle.shard_store.specs.Ranges.{IsRange, object_bytes};
-ghost use Rattle.shard_store.specs.Stored.{told_in};
+ghost use Rattle.shard_store.specs.Faults.{HasFetchCause};
+ghost use Rattle.shard_store.specs.Ranges.{IsRange, IsToldRange, LacksRange, object_bytes};
+ghost use Rattle.shard_store.specs.Stored.{told_in, is_stuck, IsAtRest};
 
 use crate::Store;
 use arrayvec::ArrayVec;
@@ -51,7 +55,7 @@ impl Shelf {
     ghost use Rattle.shard_store.specs.Shelves.{store_at, fetched_on, KeepsStores, Counts};
     ghost use Rattle.shard_store.specs.Stored.{slot_in};
     ghost use Rattle.shard_store.specs.Ranges.{range_of};
-    ghost use Rattle.shard_store.specs.declared.shelf.FetchFault.TheVariants.{NoSuch};
+    ghost use Rattle.shard_store.specs.declared.shelf.FetchFault.TheVariants.{NoSuch, Failed as FetchFailed};
 
     /// No stores.
     pub fn new() -> Shelf
@@ -89,10 +93,11 @@ impl Shelf {
         self.stores[slot as usize] = None;
     }
 
-    /// A slot's store. `None` exactly where none was put there since it was last dropped.
+    /// A slot's store. `None` exactly where none was put there since it was last dropped. From slot 16 on there is none.
     pub fn get(&self, slot: u8) -> Option<&Store>
         requires { slot < 16 }
-        ensures { option_copied result ≡ store_at self.now slot }
+        ensures value { option_copied result ≡ store_at self.now slot }
+        ensures none { (s : ℕ) → 16 ≤ s → store_at self.now s ≡ None }
     {
         self.stores[slot as usize].as_ref()
     }
@@ -129,13 +134,44 @@ impl Shelf {
     ) -> Result<(), FetchFault>
         requires slot { slot < 16 }
         requires accepted { IfSome (store_at self.old slot) (λ store. IsAccepted (told_in store)) }
+        requires here { IfSome (store_at self.old slot) (λ store. R.is_here _rig.old (slot_in store)) }
+        requires settled { IfSome (store_at self.old slot) (λ store. (is_stuck store → ⊥)
+            → IsAtRest (R.reads _rig.old) (R.images _rig.old (R.clock _rig.old)) store) }
+
+        // The bytes are those of the shard that the told steps lead to.
+        ensures ok { OnOk result (IsToldRange (R.reads _rig.old) (R.images _rig.old (R.clock _rig.old)) (store_at self.old slot)
+            name.now at (length into.old) into.new) }
+        ensures no_such { (result ≡ Err FetchFault.NoSuch)
+            ↔ LacksRange (object_bytes (store_at self.old slot) name.now) at (length into.old) }
+        ensures faults { IfErr result (λ fault. (fault ≡ NoSuch) ⊎ (fault ≡ FetchFailed)) }
+        ensures only_if_fault { HasFetchCause (R.faults _rig.old slot) (R.faults _rig.new slot) result }
+        ensures unchanged { OnErr result ((self.new ≡ self.old) × (into.new ≡ into.old)) }
+
+        ensures counted { OnOk result (fetched_on self.new slot ≡ min (fetched_on self.old slot + length into.old) count_limit) }
+        ensures others { Counts self.old self.new slot }
+        ensures read { Adds (length into.old) (R.bytes_read _rig.old slot) (R.bytes_read _rig.new slot) }
+        ensures kept { OnlyReads R.is_here R.reads R.said R.clock R.images R.faults R.syncs R.bytes_written R.bytes_read
+            slot 0 _rig.old _rig.new }
+    {
+        self.fetch_known(slot, name, at, into)
+    }
+
+    /// The same of the bytes that the store has at hand, which are all of them.
+    fn fetch_known(
+        &mut self,
+        slot: u8,
+        name: &Name,
+        at: u32,
+        into: &mut [u8],
+    ) -> Result<(), FetchFault>
+        requires slot { slot < 16 }
+        requires accepted { IfSome (store_at self.old slot) (λ store. IsAccepted (told_in store)) }
         ensures ok { OnOk result (range_of (object_bytes (store_at self.old slot) name.now) at (length into.old) ≡ Some into.new) }
         ensures no_such { OnErr result (range_of (object_bytes (store_at self.old slot) name.now) at (length into.old) ≡ None) }
         ensures faults { IfErr result (λ fault. fault ≡ NoSuch) }
-        ensures counted { OnOk result (fetched_on self.new slot ≡ min (fetched_on self.old slot + length into.old) (2 ^ 64 - 1)) }
+        ensures counted { OnOk result (fetched_on self.new slot ≡ min (fetched_on self.old slot + length into.old) count_limit) }
         ensures others { Counts self.old self.new slot }
         ensures unchanged { OnErr result ((self.new ≡ self.old) × (into.new ≡ into.old)) }
-        ensures rig { _rig.new ≡ _rig.old }
     {
         match &self.stores[slot as usize] {
             None => return Err(FetchFault::NoSuch),

@@ -1,15 +1,17 @@
 //! The store of one slot: a journal, and the state that its records lead to.
 ghost use Rattle.std.specs.Prelude.{◌≡◌, ◌⊎◌, ◌≤◌, ◌+◌, ◌↔◌, ◌++◌, [], ℕ, List, length, max, Some, Err, true, false, IfOk, IfErr, IsErrOf, OnOk, OnErr};
 ghost use Rattle.rig_disk.specs.During.{During};
-ghost use Rattle.rig_disk.specs.Frame.{Spends, KeepsOthers};
+ghost use Rattle.rig_disk.specs.Frame.{Spends};
 ghost use Rattle.shard_model.specs.States.{fits};
 ghost use Rattle.shard_model.specs.StepBytes.{step_bytes};
 ghost use Rattle.shard_model.specs.Steps.{Step as Meant};
 ghost use Rattle.shard_state.specs.StepMeanings.{step_of};
-ghost use Rattle.slot_journal.specs.Journal.{room_of, InSlot};
+ghost use Rattle.slot_journal.specs.Journal.{room_of, InSlot, HaveInUse};
 ghost use Rattle.slot_journal.specs.InUse.{told_text};
-ghost use Rattle.slot_journal.specs.Reading.{OnlyReads};
+ghost use Rattle.slot_journal.specs.Limits.{make_syncs, make_reads, load_syncs, commit_syncs, commit_bytes, prefix_len};
+ghost use Rattle.slot_journal.specs.Reading.{KeepsOtherSlots, OnlyReads};
 ghost use Rattle.slot_journal.specs.Text.{max_body, IsBadText};
+ghost use Rattle.shard_store.specs.Limits.{store_bytes};
 ghost use Rattle.shard_store.specs.Stories.{fresh_shard, shard_after, first_steps, shard_head, IsBadStory};
 ghost use Rattle.shard_store.specs.Told.{IsAccepted, IsSound, IsTold, staged_shard, unflushed_bytes, all_told, with_step, all_accepted, none_staged, all_flushed};
 
@@ -31,12 +33,12 @@ pub struct Store {
     story: Story,
     n: u8,
     ghost short: { length (unflushed_bytes story) ≤ max_body },
-    ghost room: { length (unflushed_bytes story) + 5 ≤ max (room_of journal) 5 },
+    ghost room: { length (unflushed_bytes story) + prefix_len ≤ max (room_of journal) prefix_len },
 }
 
 impl Store {
     ghost use Rattle.shard_store.specs.Faults.{HasStoreCause};
-    ghost use Rattle.shard_store.specs.Stored.{slot_in, area_in, room_in, is_stuck, told_in, IsAtRest, IsStored, Flushes, Becomes, IsFlushed, IsNew, MakesShard};
+    ghost use Rattle.shard_store.specs.Stored.{slot_in, room_in, is_stuck, told_in, IsAtRest, IsStored, Flushes, Becomes, IsFlushed, IsNew, MakesShard};
     ghost use Rattle.shard_store.specs.declared.fault.StoreFault.TheVariants.{Failed as SlotFailed, BadSlot, Spent, NoMemory as OutOfMemory};
 
     /// Makes a store in the place of what the slot holds: its text has one step, which starts epoch 1, or has the shard filled
@@ -52,7 +54,7 @@ impl Store {
         requires slot { slot ≤ 16 }
         requires here { R.is_here rig.old slot }
 
-        ensures ok { IfOk result (λ store. (text : List ℕ) → told_text (R.reads rig.old slot) ≡ Some text
+        ensures ok { IfOk result (λ store. (text : List ℕ) → told_text slot (R.reads rig.old slot) ≡ Some text
             → (after : List ℕ) × IsStored (R.reads rig.new) (R.images rig.new (R.clock rig.new)) store after (first_steps partial) []) }
         ensures settled { IfOk result (IsAtRest (R.reads rig.new) (R.images rig.new (R.clock rig.new))) }
         ensures fresh { IfOk result (λ store. IsNew store slot (record { k = g.k; unit = g.unit }) n) }
@@ -62,11 +64,11 @@ impl Store {
         ensures only_if_fault { HasStoreCause (R.faults rig.old slot) (R.faults rig.new slot) result }
 
         ensures any_moment { During R.clock R.images rig.old rig.new (InSlot (R.images rig.old (R.clock rig.old)) slot
-            (MakesShard (R.reads rig.old slot) (record { k = g.k; unit = g.unit })
+            (MakesShard slot (R.reads rig.old slot) (record { k = g.k; unit = g.unit })
             (shard_head slot (record { k = g.k; unit = g.unit }) n) (first_steps partial))) }
-        ensures counts { Spends R.syncs R.bytes_written R.bytes_read slot 4 36 1 rig.old rig.new }
-        ensures kept { KeepsOthers R.is_here R.reads R.said R.faults R.syncs R.bytes_written R.bytes_read
-            slot 0 rig.old rig.new }
+        ensures counts { Spends R.syncs R.bytes_written R.bytes_read slot make_syncs store_bytes make_reads rig.old rig.new }
+        ensures kept { KeepsOtherSlots R.is_here R.reads R.said R.faults R.syncs R.bytes_written R.bytes_read
+            slot rig.old rig.new }
     {
         let mut story = match first_story(alloc, g, partial) {
             Ok(story) => story,
@@ -93,18 +95,20 @@ impl Store {
         requires slot { slot ≤ 16 }
         requires here { R.is_here rig.old slot }
 
-        ensures ok { IfOk result (λ store. (text : List ℕ) → told_text (R.reads rig.old slot) ≡ Some text
+        ensures ok { IfOk result (λ store. (text : List ℕ) → told_text slot (R.reads rig.old slot) ≡ Some text
             → (steps : List Meant) × IsStored (R.reads rig.new) (R.images rig.new (R.clock rig.new)) store text steps []) }
         ensures settled { IfOk result (IsAtRest (R.reads rig.new) (R.images rig.new (R.clock rig.new))) }
         ensures fresh { IfOk result (λ store. IsNew store slot (record { k = g.k; unit = g.unit }) n) }
         ensures bad_slot { (at : ℕ) → IsErrOf result (BadSlot at) → (text : List ℕ)
-            → told_text (R.reads rig.old slot) ≡ Some text
+            → told_text slot (R.reads rig.old slot) ≡ Some text
             → IsBadText (shard_head slot (record { k = g.k; unit = g.unit }) n) text at
             ⊎ IsBadStory (record { k = g.k; unit = g.unit }) (shard_head slot (record { k = g.k; unit = g.unit }) n) text at }
+        ensures bad_durable { (at : ℕ) → IsErrOf result (BadSlot at) → (text : List ℕ)
+            → told_text slot (R.reads rig.old slot) ≡ Some text → HaveInUse (R.images rig.new (R.clock rig.new)) slot text }
         ensures spent { IsErrOf result Spent → ⊥ }
         ensures only_if_fault { HasStoreCause (R.faults rig.old slot) (R.faults rig.new slot) result }
         ensures kept { OnlyReads R.is_here R.reads R.said R.clock R.images R.faults R.syncs R.bytes_written R.bytes_read
-            slot 0 1 rig.old rig.new }
+            slot load_syncs rig.old rig.new }
     {
         match Journal::load(alloc, rig, slot, &shard_head(slot, g, n)) {
             Ok((journal, bodies)) => {
@@ -143,10 +147,17 @@ impl Store {
         self.story.pending() as u64
     }
 
+    /// The number of bytes of all steps that are not flushed, the staged ones among them.
+    pub fn unflushed(&self) -> u64
+        ensures { result ≡ length (unflushed_bytes (told_in self.now)) }
+    {
+        self.story.body().len() as u64
+    }
+
     /// Stages a step behind those that are staged already, and takes all memory that it needs. On a refusal all is as it was.
     pub fn stage(&mut self, step: &Step) -> Result<(), StepFault>
         requires short { length (unflushed_bytes (told_in self.old)) + length (step_bytes (step_of step.now)) ≤ max_body }
-        requires room { length (unflushed_bytes (told_in self.old)) + length (step_bytes (step_of step.now)) + 5 ≤ room_in self.old }
+        requires room { length (unflushed_bytes (told_in self.old)) + length (step_bytes (step_of step.now)) + prefix_len ≤ room_in self.old }
         ensures ok { OnOk result (Becomes self.old self.new (with_step (told_in self.old) (step_of step.now))) }
         ensures misfit { (result ≡ Err StepFault.Misfit)
             ↔ (fits (staged_shard (told_in self.old)).geometry (staged_shard (told_in self.old)).state (step_of step.now) ≡ false) }
@@ -187,6 +198,7 @@ impl Store {
         ensures spent { (result ≡ Err StoreFault.Spent) ↔ (is_stuck self.old
             × ((told_in self.old).pending ≡ [] → ⊥)) }
         ensures unchanged { is_stuck self.old → rig.new ≡ rig.old }
+        ensures nothing { (told_in self.old).pending ≡ [] → rig.new ≡ rig.old }
         ensures faults { IfErr result (λ fault. (fault ≡ SlotFailed) ⊎ (fault ≡ Spent)) }
         ensures only_if_fault { HasStoreCause
             (R.faults rig.old (slot_in self.old)) (R.faults rig.new (slot_in self.old)) result }
@@ -195,9 +207,9 @@ impl Store {
             (InSlot (R.images rig.old (R.clock rig.old)) (slot_in self.old)
             (Flushes (R.reads rig.old) (R.images rig.old (R.clock rig.old)) self.old)) }
         ensures counts { Spends R.syncs R.bytes_written R.bytes_read
-            (slot_in self.old) 2 (length (told_in self.old).pending + 6) 0 rig.old rig.new }
-        ensures kept { KeepsOthers R.is_here R.reads R.said R.faults R.syncs R.bytes_written R.bytes_read
-            (slot_in self.old) (area_in self.old) rig.old rig.new }
+            (slot_in self.old) commit_syncs (length (told_in self.old).pending + commit_bytes) 0 rig.old rig.new }
+        ensures kept { KeepsOtherSlots R.is_here R.reads R.said R.faults R.syncs R.bytes_written R.bytes_read
+            (slot_in self.old) rig.old rig.new }
     {
         if self.story.is_flushed() {
             return Ok(());
@@ -213,6 +225,3 @@ impl Store {
         }
     }
 }
-
-#[cfg(test)]
-mod tests;

@@ -1,25 +1,9 @@
 -- The rows make the code.
-use Rattle.std.proofs.Common.{◌≡◌, ◌⊎◌, ℕ, List, ◌+◌, ◌<◌, ◌≤◌, length, set, get_or, get_or-set_same, get_or-set_other, slice_index, refl, sym, ap, ◌∙◌, subst, arith, zero-add, inl, inr}
-use Rattle.std.specs.List.{range_with_len}
-use Rattle.std.proofs.lemmas.List.FromFn.{get_or-range_with_len}
+use Rattle.std.proofs.Common.{◌≡◌, ◌⊎◌, ℕ, List, ◌+◌, ◌<◌, length, set, get_or, get_or-set_same, get_or-set_other, refl, sym, subst, arith, inl, inr}
 use Rattle.ec_model.specs.Rows.{entry_at, unit_entry}
-use Rattle.ec_model.specs.Codes.{IsCode}
 use Rattle.ec_model.specs.Shec.{IsShecEntry, IsShec}
 use Rattle.rs_van.specs.Systematic.{systematic}
-
-pub place_at : (k j : ℕ) → j < k → slice_index (range_with_len 0 k) j ≡ j
-place_at k j lt = get_or-range_with_len 0 k j 0 lt ∙ zero-add j
-
-pub code_of_rows : (k n : ℕ) (rows : List (List ℕ)) → 1 ≤ k → k ≤ n → n ≤ 16 → ((i j : ℕ) → i < k → j < k → entry_at rows i j ≡ unit_entry i j)
-    → IsCode (systematic k n rows)
-code_of_rows k n rows some more few units = record {
-  some_data = some;
-  as_many = more;
-  few = few;
-  some_lead = some;
-  placed = λ j lt. let e = place_at k j lt in omega arith;
-  units = λ i j li lj. ap (λ t. entry_at rows t j) (place_at k i li) ∙ units i j li lj;
-}
+use Rattle.rs_van.proofs.SystematicLemmas.{place_at}
 
 pub shec_of : (k m c : ℕ) (rows : List (List ℕ)) → ((i j : ℕ) → i < k → j < k → entry_at rows i j ≡ unit_entry i j)
     → ((r j : ℕ) → r < m → j < k → IsShecEntry k m c r j (entry_at rows (k + r) j)) → IsShec k m c (systematic k (k + m) rows)

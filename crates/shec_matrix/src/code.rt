@@ -1,15 +1,17 @@
 //! The code as an object.
-ghost use Rattle.std.specs.Prelude.{codes};
+ghost use Rattle.std.specs.Prelude.{◌≡◌, codes, slice_index};
+ghost use Rattle.ec_model.specs.Rows.{entry_at};
 ghost use Rattle.ec_model.specs.Codes.{IsCode};
 ghost use Rattle.ec_code.specs.Shapes.{HasShape};
 ghost use Rattle.rs_van.specs.Systematic.{systematic};
 
 use crate::counts::counts_of;
-use crate::rows::{rows_of, unit_rows};
+use crate::rows::rows_of;
 use ec_code::{Code, Profile, ProfileFault, Shape, encode_rows};
+use rs_van::unit_rows;
 
 /// The code shec. Its data chunks stand first, and chunk sizes are multiples of k.
-#[derive(Clone, Copy, Debug)]
+#[derive(Clone, Copy)]
 pub struct Shec {
     k: u8,
     n: u8,
@@ -18,9 +20,11 @@ pub struct Shec {
 }
 
 impl Shec {
-    /// The code before `init`: one data chunk, and no other position.
+    /// The code before `init`: one data chunk at position 0, with the row 1, and no other position.
     pub fn new() -> Shec
-        ensures { HasShape (⟦<Shec as Code>⟧.meaning result) 1 1 1 }
+        ensures shape { HasShape (⟦<Shec as Code>⟧.meaning result) 1 1 1 }
+        ensures row { entry_at (⟦<Shec as Code>⟧.meaning result).rows 0 0 ≡ 1 }
+        ensures place { slice_index (⟦<Shec as Code>⟧.meaning result).places 0 ≡ 0 }
     {
         Shec {
             k: 1,
@@ -70,6 +74,3 @@ impl Code for Shec {
         encode_rows(&self.rows, self.k, self.n, stripe, unit, out);
     }
 }
-
-#[cfg(test)]
-mod tests;

@@ -6,7 +6,7 @@ ghost use Rattle.ec_code.specs.ShecFaults.{AreMany, IsOutside, AreUnordered};
 use ec_code::{Key, Plugin, Profile, ProfileFault, Technique};
 
 /// The numbers of data and of coding chunks, and of the coding chunks that each data chunk is in.
-#[derive(Clone, Copy, Debug, PartialEq, Eq)]
+#[derive(Clone, Copy)]
 pub struct Counts {
     pub k: u8,
     pub m: u8,

@@ -4,7 +4,7 @@ ghost use Rattle.ec_model.specs.Rows.{unit_entry, entry_at};
 ghost use Rattle.ec_model.specs.Shec.{IsShecEntry};
 
 use crate::windows::is_left_out;
-use rs_van::coding_entry;
+use rs_van::{coding_entry, unit_rows};
 
 /// The entry of coding row `r`, of `m` with the number `c`, at column `j`, of `k`.
 pub fn shec_entry(k: u8, m: u8, c: u8, r: u8, j: u8) -> u8
@@ -30,29 +30,6 @@ fn coding_row(k: u8, m: u8, c: u8, r: u8) -> [u8; 16]
         row[j as usize] = shec_entry(k, m, c, r, j);
     }
     row
-}
-
-fn unit_row(i: u8) -> [u8; 16]
-    requires { i < 16 }
-    ensures { (j : ℕ) → j < 16 → slice_index result j ≡ unit_entry i j }
-{
-    let mut row = [0u8; 16];
-    for j in 0..16u8 {
-        row[j as usize] = u8::from(i == j);
-    }
-    row
-}
-
-/// The first `k` unit rows.
-pub fn unit_rows(k: u8) -> [[u8; 16]; 16]
-    requires { k ≤ 16 }
-    ensures { (i j : ℕ) → i < k → j < k → entry_at result i j ≡ unit_entry i j }
-{
-    let mut rows = [[0u8; 16]; 16];
-    for i in 0..k {
-        rows[i as usize] = unit_row(i);
-    }
-    rows
 }
 
 /// The unit rows, and the coding rows below them.

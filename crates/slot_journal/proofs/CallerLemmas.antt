@@ -1,10 +1,13 @@
--- What a journal holds stays while other slots are worked on: what layers above cite.
-use Rattle.std.proofs.Common.{◌≡◌, ◌≢◌, ℕ, List, Option, ◌∙◌, sym, ap}
-use Rattle.rig_disk.specs.Disk.{Image, on_told}
+-- What a journal holds stays while other slots are worked on, and what calls keep of other slots: what layers above cite.
+use Rattle.std.proofs.Common.{◌≡◌, ◌≢◌, inl, inr, ℕ, List, Option, ◌∙◌, sym, ap}
+use Rattle.std.proofs.lemmas.Bool.{cases_eq}
+use Rattle.rig_disk.specs.Disk.{Image, Saying, on_told}
 use Rattle.rig_disk.specs.During.{During}
+use Rattle.rig_disk.specs.Frame.{KeepsOthers}
 use Rattle.rig_disk.proofs.Moments.{at_end}
-use Rattle.slot_journal.specs.InUse.{Areas, open_text}
+use Rattle.slot_journal.specs.InUse.{Areas, open_text, first_told}
 use Rattle.slot_journal.specs.Journal.{slot_of, Holds, IsSettledWhereTold, InSlot}
+use Rattle.slot_journal.specs.Reading.{KeepsOtherSlots, OnlyReads, OnlyReadsArea}
 use Rattle.slot_journal.specs.declared.journal.Journal.{Journal}
 
 module _ {R : Type 0} (reads_of : R → ℕ → ℕ → Option (List ℕ)) (clock_of : R → ℕ) (images_of : R → ℕ → Image → List ℕ → Type 0) (old new : R) (journal : Journal)
@@ -17,7 +20,9 @@ module _ {R : Type 0} (reads_of : R → ℕ → ℕ → Option (List ℕ)) (cloc
       → Holds (reads_of old) (Now old) journal head bodies text → Holds (reads_of new) (Now new) journal head bodies text
   holds_over head bodies text run holds = record {
     told = ap (on_told open_text) (same 0) ∙ holds.told;
+    told_in = ap first_told (same 0) ∙ holds.told_in;
     is_text = holds.is_text;
+    durable_in = λ image said now. holds.durable_in image said (at_end clock_of images_of old new (λ i x. images_of old (clock_of old) i x) run image said now);
     durable = λ image said now. holds.durable image said (at_end clock_of images_of old new (λ i x. images_of old (clock_of old) i x) run image said now);
   }
 
@@ -33,7 +38,11 @@ module _ {R : Type 0} (reads_of : R → ℕ → ℕ → Option (List ℕ)) (cloc
       → Holds (reads_of old) (Now old) journal head bodies text → Holds (reads_of new) (Now new) journal head bodies text
   holds_elsewhere slot step head bodies text other run holds = record {
     told = ap (on_told open_text) (same 0) ∙ holds.told;
+    told_in = ap first_told (same 0) ∙ holds.told_in;
     is_text = holds.is_text;
+    durable_in = λ image said now.
+        let from = at_end clock_of images_of old new (InSlot (Now old) slot step) run image said now in
+        holds.durable_in from.source said from.was;
     durable = λ image said now.
         let from = at_end clock_of images_of old new (InSlot (Now old) slot step) run image said now in
         ap open_text (from.others (slot_of journal) other 0) ∙ holds.durable from.source said from.was;
@@ -44,3 +53,50 @@ module _ {R : Type 0} (reads_of : R → ℕ → ℕ → Option (List ℕ)) (cloc
   settled_elsewhere slot step other run settled text told =
       let s = settled text (sym (ap (on_told open_text) (same 0)) ∙ told) in
       record { head = s.head; bodies = s.bodies; holds = holds_elsewhere slot step s.head s.bodies text other run s.holds }
+
+  -- over a call that says something
+  pub holds_saying : (bytes : List ℕ) (head : List ℕ) (bodies : List (List ℕ)) (text : List ℕ) → During clock_of images_of old new (Saying (Now old) bytes)
+      → Holds (reads_of old) (Now old) journal head bodies text → Holds (reads_of new) (Now new) journal head bodies text
+  holds_saying bytes head bodies text run holds = record {
+    told = ap (on_told open_text) (same 0) ∙ holds.told;
+    told_in = ap first_told (same 0) ∙ holds.told_in;
+    is_text = holds.is_text;
+    durable_in = λ image said now.
+        let from = at_end clock_of images_of old new (Saying (Now old) bytes) run image said now in
+        holds.durable_in image from.before from.was;
+    durable = λ image said now.
+        let from = at_end clock_of images_of old new (Saying (Now old) bytes) run image said now in
+        holds.durable image from.before from.was;
+  }
+
+  pub settled_saying : (bytes : List ℕ) → During clock_of images_of old new (Saying (Now old) bytes)
+      → IsSettledWhereTold (reads_of old) (Now old) journal → IsSettledWhereTold (reads_of new) (Now new) journal
+  settled_saying bytes run settled text told =
+      let s = settled text (sym (ap (on_told open_text) (same 0)) ∙ told) in
+      record { head = s.head; bodies = s.bodies; holds = holds_saying bytes s.head s.bodies text run s.holds }
+
+module _ {R : Type 0} (is_here : R → ℕ → Type 0) (reads_of : R → ℕ → ℕ → Option (List ℕ)) (said_of : R → Option (List ℕ)) (faults_of : R → ℕ → ℕ)
+    (syncs_of written_of read_of : R → ℕ → Option ℕ) (slot area : ℕ) where
+  -- what calls on one area keep of other slots
+  pub other_slots : (old new : R) → KeepsOthers is_here reads_of said_of faults_of syncs_of written_of read_of slot area old new
+      → KeepsOtherSlots is_here reads_of said_of faults_of syncs_of written_of read_of slot old new
+  other_slots old new kept = record { here = kept.here; reads = λ s a other. kept.reads s a (inl other); said = kept.said; counts = kept.counts }
+
+module _ {R : Type 0} (is_here : R → ℕ → Type 0) (reads_of : R → ℕ → ℕ → Option (List ℕ)) (said_of : R → Option (List ℕ)) (clock_of : R → ℕ)
+    (images_of : R → ℕ → Image → List ℕ → Type 0) (faults_of : R → ℕ → ℕ) (syncs_of written_of read_of : R → ℕ → Option ℕ) (slot area n : ℕ) where
+  -- calls that only read one area only read the slot
+  pub only_reads : (old new : R) → OnlyReadsArea is_here reads_of said_of clock_of images_of faults_of syncs_of written_of read_of slot area n old new
+      → OnlyReads is_here reads_of said_of clock_of images_of faults_of syncs_of written_of read_of slot n old new
+  only_reads old new only = record {
+    any_moment = only.any_moment;
+    kept = other_slots is_here reads_of said_of faults_of syncs_of written_of read_of slot area old new only.kept;
+    reads = each;
+    syncs = only.syncs;
+    written = only.written;
+  }
+    where
+      each : (a : ℕ) → reads_of new slot a ≡ reads_of old slot a
+      each a = elim (cases_eq a area) [
+        | inl same ↦ ap (λ x. reads_of new slot x) same ∙ only.reads ∙ ap (λ x. reads_of old slot x) (sym same)
+        | inr other ↦ only.kept.reads slot a (inr other)
+      ]

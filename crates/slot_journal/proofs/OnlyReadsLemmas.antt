@@ -3,12 +3,12 @@ use Rattle.std.proofs.Common.{◌+◌, ℕ, List, Option, ◌∙◌}
 use Rattle.rig_disk.specs.Disk.{Image}
 use Rattle.rig_disk.proofs.FrameLemmas.{Adds-more, Adds-none, KeepsOthers-more, KeepsOthers-none}
 use Rattle.rig_disk.proofs.Moments.{started, goes_on, at_end}
-use Rattle.slot_journal.specs.Reading.{OnlyReads}
+use Rattle.slot_journal.specs.Reading.{OnlyReadsArea}
 
 module _ {R : Type 0} (is_here : R → ℕ → Type 0) (reads_of : R → ℕ → ℕ → Option (List ℕ)) (said_of : R → Option (List ℕ)) (clock_of : R → ℕ)
     (images_of : R → ℕ → Image → List ℕ → Type 0) (faults_of : R → ℕ → ℕ) (syncs_of written_of read_of : R → ℕ → Option ℕ) (slot area : ℕ) where
   abbrev Reads : ℕ → R → R → Type 0
-  Reads n old new = OnlyReads is_here reads_of said_of clock_of images_of faults_of syncs_of written_of read_of slot area n old new
+  Reads n old new = OnlyReadsArea is_here reads_of said_of clock_of images_of faults_of syncs_of written_of read_of slot area n old new
 
   pub OnlyReads-more : (m n : ℕ) (old mid new : R) → Reads m old mid → Reads n mid new → Reads (m + n) old new
   OnlyReads-more m n old mid new p q = record {

@@ -1,8 +1,9 @@
 -- What a contract sees of a journal. Source: this project.
-use Rattle.std.specs.Prelude.{◌≡◌, ◌≢◌, ◌⊎◌, ◌+◌, ◌-◌, ◌^◌, ◌∷◌, [], ℕ, Bool, true, false, List, Option, Some, Result, OnOk, OnErr}
+use Rattle.std.specs.Prelude.{◌≡◌, ◌≢◌, ◌⊎◌, ◌<◌, ◌+◌, ◌-◌, ◌∷◌, [], ℕ, Bool, true, false, List, length, Option, Some, Result, OnOk, OnErr}
 use Rattle.rig_disk.specs.Disk.{Image}
-use Rattle.slot_journal.specs.InUse.{Areas, text_in_use, told_text}
-use Rattle.slot_journal.specs.Text.{IsText, IsSomeText}
+use Rattle.slot_journal.specs.InUse.{Areas, area_in_use, text_in_use, told_area, told_text}
+use Rattle.slot_journal.specs.Limits.{area_limit}
+use Rattle.slot_journal.specs.Text.{IsText}
 use Rattle.slot_journal.specs.Writing.{next_gate, IsBeforeOrAfter}
 use Rattle.slot_journal.specs.declared.journal.Journal.{Journal}
 
@@ -25,16 +26,24 @@ gate_of journal = journal.gate
 abbrev pub is_spent : Journal → Bool
 is_spent journal = journal.spent
 
--- how many bytes its text may still grow by: up to 2 ^ 40 with the closed gate among them
+-- how many bytes its text may still grow by: up to the area's limit with the closed gate among them
 abbrev pub room_of : Journal → ℕ
-room_of journal = 2 ^ 40 - (gate_of journal + 1)
+room_of journal = area_limit - (gate_of journal + 1)
 
--- the slot's text in use reads as these records up to the journal's gate, and each image of now has just that text in use
+-- the slot's text in use reads as these records up to the journal's gate and stands in the journal's area, and each image of
+-- now has just that text in use there
 pub record Holds (reads : ℕ → ℕ → Option (List ℕ)) (images : Image → List ℕ → Type 0) (journal : Journal)
     (head : List ℕ) (bodies : List (List ℕ)) (text : List ℕ) : Type 0 where
-  pub told : told_text (reads (slot_of journal)) ≡ Some text
+  pub told : told_text (slot_of journal) (reads (slot_of journal)) ≡ Some text
+  pub told_in : told_area (slot_of journal) (reads (slot_of journal)) ≡ Some (area_of journal)
   pub is_text : IsText head bodies (gate_of journal) text
-  pub durable : (image : Image) (said : List ℕ) → images image said → text_in_use (image (slot_of journal)) ≡ text
+  pub durable : (image : Image) (said : List ℕ) → images image said → text_in_use (slot_of journal) (image (slot_of journal)) ≡ text
+  pub durable_in : (image : Image) (said : List ℕ) → images image said
+      → area_in_use (slot_of journal) (image (slot_of journal)) ≡ area_of journal
+
+-- each of these images has this text in use in a slot
+abbrev pub HaveInUse : (Image → List ℕ → Type 0) → ℕ → List ℕ → Type 0
+HaveInUse images slot text = (image : Image) (said : List ℕ) → images image said → text_in_use slot (image slot) ≡ text
 
 -- the journal holds some records
 pub record IsSettled (reads : ℕ → ℕ → Option (List ℕ)) (images : Image → List ℕ → Type 0) (journal : Journal)
@@ -46,7 +55,7 @@ pub record IsSettled (reads : ℕ → ℕ → Option (List ℕ)) (images : Image
 -- the same, where the rig tells the slot's text in use
 abbrev pub IsSettledWhereTold : (ℕ → ℕ → Option (List ℕ)) → (Image → List ℕ → Type 0) → Journal → Type 0
 IsSettledWhereTold reads images journal =
-    (text : List ℕ) → told_text (reads (slot_of journal)) ≡ Some text → IsSettled reads images journal text
+    (text : List ℕ) → told_text (slot_of journal) (reads (slot_of journal)) ≡ Some text → IsSettled reads images journal text
 
 -- a new journal over a slot
 pub record IsFresh (journal : Journal) (slot : ℕ) : Type 0 where
@@ -79,12 +88,11 @@ pub record Commits (reads : ℕ → ℕ → Option (List ℕ)) (images : Image �
     (body : List ℕ) (before after : Areas) : Type 0 where
   pub others : (a : ℕ) → a ≢ area_of journal → after a ≡ before a
   pub records : (head : List ℕ) (bodies : List (List ℕ)) (text : List ℕ) → Holds reads images journal head bodies text
-      → IsBeforeOrAfter head bodies body (gate_of journal) (text_in_use after)
+      → IsBeforeOrAfter head bodies body (gate_of journal) (text_in_use (slot_of journal) after)
 
--- the making of a journal at each of its instants: one area alone changes, and the slot has in use the text that it
--- had, no text of the grammar, or the new one
-pub record Makes (reads : ℕ → Option (List ℕ)) (head body : List ℕ) (before after : Areas) : Type 0 where
-  pub others : (a : ℕ) → a ≢ 0 → after a ≡ before a
-  pub texts : (text : List ℕ) → told_text reads ≡ Some text
-      → (text_in_use after ≡ text_in_use before)
-      ⊎ ((IsSomeText (text_in_use after) → ⊥) ⊎ IsText head (body ∷ []) (next_gate 24 body) (text_in_use after))
+-- the making of a journal at each of its instants: the slot has in use the text that it had, one that is shorter than a
+-- header, or the new one
+pub record Makes (slot : ℕ) (reads : ℕ → Option (List ℕ)) (head body : List ℕ) (before after : Areas) : Type 0 where
+  pub texts : (text : List ℕ) → told_text slot reads ≡ Some text
+      → (text_in_use slot after ≡ text_in_use slot before)
+      ⊎ ((length (text_in_use slot after) < 24) ⊎ IsText head (body ∷ []) (next_gate 24 body) (text_in_use slot after))

@@ -1,9 +1,9 @@
 -- Calls that only read, and the pieces in which a text is read. Source: this project.
-use Rattle.std.specs.Prelude.{◌≡◌, ◌≢◌, ◌≤◌, ◌<◌, ◌+◌, ◌-◌, ℕ, List, ◌++◌, length, take, drop, get_or, min, Option, Result, IsErrOf}
+use Rattle.std.specs.Prelude.{◌≡◌, ◌≢◌, ◌↔◌, ◌≤◌, ◌<◌, ◌+◌, ◌-◌, ℕ, List, ◌++◌, length, take, drop, get_or, min, Option, Result, IsErrOf}
 use Rattle.rig_disk.specs.Disk.{Image}
 use Rattle.rig_disk.specs.During.{During}
 use Rattle.rig_disk.specs.Faults.{Rose}
-use Rattle.rig_disk.specs.Frame.{Adds, KeepsOthers}
+use Rattle.rig_disk.specs.Frame.{Adds, KeepsCounts, KeepsOthers}
 use Rattle.slot_journal.specs.Header.{open_gate}
 use Rattle.slot_journal.specs.Text.{max_body, record_bytes, records, AreSized, FailsAt}
 use Rattle.slot_journal.specs.declared.fault.JournalFault.{JournalFault}
@@ -14,8 +14,26 @@ pub record HasSlotCause {T : Type 0} (before now : ℕ) (result : Result T Journ
   pub failed : IsErrOf result Failed → Rose before now
   pub quiet : (IsErrOf result Failed → ⊥) → now ≡ before
 
+-- which slots are here, what was said, and all that other slots read and count are as they were
+pub record KeepsOtherSlots {R : Type 0} (is_here : R → ℕ → Type 0) (reads_of : R → ℕ → ℕ → Option (List ℕ))
+    (said_of : R → Option (List ℕ)) (faults_of : R → ℕ → ℕ) (syncs_of written_of read_of : R → ℕ → Option ℕ) (slot : ℕ) (old new : R) : Type 0 where
+  pub here : (s : ℕ) → is_here old s ↔ is_here new s
+  pub reads : (s a : ℕ) → s ≢ slot → reads_of new s a ≡ reads_of old s a
+  pub said : said_of new ≡ said_of old
+  pub counts : KeepsCounts faults_of syncs_of written_of read_of slot old new
+
 -- what reads give and what a crash may leave is as it was, the other slots too, and there are at most so many syncs
 pub record OnlyReads {R : Type 0} (is_here : R → ℕ → Type 0) (reads_of : R → ℕ → ℕ → Option (List ℕ))
+    (said_of : R → Option (List ℕ)) (clock_of : R → ℕ) (images_of : R → ℕ → Image → List ℕ → Type 0)
+    (faults_of : R → ℕ → ℕ) (syncs_of written_of read_of : R → ℕ → Option ℕ) (slot sync_count : ℕ) (old new : R) : Type 0 where
+  pub any_moment : During clock_of images_of old new (λ image said. images_of old (clock_of old) image said)
+  pub kept : KeepsOtherSlots is_here reads_of said_of faults_of syncs_of written_of read_of slot old new
+  pub reads : (area : ℕ) → reads_of new slot area ≡ reads_of old slot area
+  pub syncs : Adds sync_count (syncs_of old slot) (syncs_of new slot)
+  pub written : Adds 0 (written_of old slot) (written_of new slot)
+
+-- the same of calls on one area of the slot
+pub record OnlyReadsArea {R : Type 0} (is_here : R → ℕ → Type 0) (reads_of : R → ℕ → ℕ → Option (List ℕ))
     (said_of : R → Option (List ℕ)) (clock_of : R → ℕ) (images_of : R → ℕ → Image → List ℕ → Type 0)
     (faults_of : R → ℕ → ℕ) (syncs_of written_of read_of : R → ℕ → Option ℕ) (slot area sync_count : ℕ) (old new : R) : Type 0 where
   pub any_moment : During clock_of images_of old new (λ image said. images_of old (clock_of old) image said)

@@ -43,9 +43,9 @@ pub record IsShut (text : List ℕ) : Type 0 where
   pub bytes : text ≡ gate ∷ rest
   pub closed : gate ≢ open_gate
 
--- no text of the grammar: too short for a header and a gate, or with its first gate closed
+-- no text at all: shorter than a header, or with its first gate closed
 abbrev pub IsVoid : List ℕ → Type 0
-IsVoid text = (length text < 25) ⊎ IsShut text
+IsVoid text = (length text < 24) ⊎ IsShut text
 
 -- the text that a new journal begins with
 abbrev pub first_text : List ℕ → List ℕ → List ℕ

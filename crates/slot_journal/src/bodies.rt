@@ -7,7 +7,7 @@ use std::alloc::Global;
 use std::marker::Model;
 
 /// The bodies of records, in order. A contract sees the list of their lists of bytes.
-#[derive(Debug, Drop)]
+#[derive(Drop)]
 pub struct Bodies {
     list: Vec<Bytes>,
 }
@@ -47,23 +47,5 @@ impl Bodies {
         ensures { result.now ≡ self.now }
     {
         self.list.as_slice()
-    }
-}
-
-#[cfg(test)]
-mod tests {
-    use super::*;
-    use std::test::Fail;
-
-    #[test]
-    fn bodies_come_back(rt: HostRuntime) -> Result<(), Fail> {
-        let alloc = rt.alloc();
-        assert!(rt; Bodies::new(alloc).as_slice().is_empty());
-        let bodies = Bodies::of(vec![in alloc; Bytes::from_slice(alloc, b"ab")?]?);
-        assert_eq!(rt; bodies.as_slice().len(), 1);
-        let list = bodies.into_vec();
-        assert!(rt; list.len() == 1);
-        assert_eq!(rt; list[0].as_slice(), b"ab".as_slice());
-        Ok(())
     }
 }

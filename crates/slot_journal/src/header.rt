@@ -5,14 +5,14 @@ use crate::KNOWN_FORMATS;
 use byteorder::{BigEndian, ByteOrder};
 
 /// Whose text it is.
-#[derive(Clone, Copy, Debug, PartialEq, Eq)]
+#[derive(Clone, Copy)]
 pub enum Owner {
     Shard,
     Map,
 }
 
 /// What a head says.
-#[derive(Clone, Copy, Debug, PartialEq, Eq)]
+#[derive(Clone, Copy)]
 pub struct Header {
     pub owner: Owner,
     pub format: u8,
@@ -89,33 +89,5 @@ impl Header {
             unit: BigEndian::read_u32(&head[11..]),
             serial: BigEndian::read_u64(&head[15..]),
         })
-    }
-}
-
-#[cfg(test)]
-mod tests {
-    use super::*;
-
-    // From the format: the letters, then one byte each, then four and eight.
-    #[test]
-    fn a_head_is_read_back(rt: HostRuntime) {
-        let header = Header {
-            owner: Owner::Map,
-            format: 1,
-            slot: 16,
-            k: 4,
-            n: 6,
-            unit: 0x0102_0304,
-            serial: 0x0506_0708_090a_0b0c,
-        };
-        let mut head = header.encode();
-        assert_eq!(rt;
-            head,
-            *b"ECPOOLM\x01\x10\x04\x06\x01\x02\x03\x04\x05\x06\x07\x08\x09\x0a\x0b\x0c"
-        );
-        assert_eq!(rt; Header::decode(&head), Some(header));
-        head[7] = 2;
-        assert_eq!(rt; Header::decode(&head), None);
-        assert_eq!(rt; Header::decode(&[b'E'; 23]), None);
     }
 }

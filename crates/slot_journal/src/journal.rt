@@ -3,7 +3,8 @@ ghost use Rattle.std.specs.Prelude.{◌≡◌, ◌≢◌, ◌⊎◌, ◌≤◌, 
 ghost use Rattle.rig_disk.specs.During.{During};
 ghost use Rattle.rig_disk.specs.Frame.{Spends, KeepsOthers};
 ghost use Rattle.slot_journal.specs.InUse.{told_text};
-ghost use Rattle.slot_journal.specs.Reading.{HasSlotCause, OnlyReads};
+ghost use Rattle.slot_journal.specs.Limits.{make_syncs, make_bytes, make_reads, load_syncs, commit_syncs, commit_bytes, prefix_len};
+ghost use Rattle.slot_journal.specs.Reading.{HasSlotCause, OnlyReadsArea};
 ghost use Rattle.slot_journal.specs.Text.{IsBadText, max_body};
 ghost use Rattle.slot_journal.specs.Writing.{first_text, next_gate};
 
@@ -11,13 +12,13 @@ use crate::limits::{AREA, PREFIX_LEN};
 use crate::load::read_text;
 use crate::make::{shut, write_first};
 use crate::write::commit_record;
-use crate::{AREA_LIMIT, Bodies, COMMIT_SYNCS, HEADER_LEN, JournalFault, MAKE_SYNCS};
+use crate::{AREA_LIMIT, Bodies, HEADER_LEN, JournalFault};
 use rig_disk::Rig;
 use std::alloc::Global;
 
 /// The records of a slot: where the gate that closes them stands, and whether a call has failed. It is used with the
 /// rig over which it was made or loaded.
-#[derive(Debug, Drop)]
+#[derive(Drop)]
 pub struct Journal {
     slot: u8,
     area: u8,
@@ -30,7 +31,7 @@ pub struct Journal {
 }
 
 impl Journal {
-    ghost use Rattle.slot_journal.specs.Journal.{slot_of, area_of, serial_of, gate_of, is_spent, room_of, Holds, IsSettledWhereTold, IsFresh, IsCommitted, InSlot, Commits, Makes};
+    ghost use Rattle.slot_journal.specs.Journal.{slot_of, area_of, serial_of, gate_of, is_spent, room_of, Holds, IsSettledWhereTold, IsFresh, IsCommitted, InSlot, Commits, Makes, HaveInUse};
     ghost use Rattle.slot_journal.specs.declared.fault.JournalFault.TheVariants.{Failed as SlotFailed, BadSlot, Spent, NoMemory as OutOfMemory};
 
     /// Makes a journal with one record in the place of what the slot holds. A crash at any instant leaves in use the text
@@ -46,7 +47,7 @@ impl Journal {
         requires some { 1 ≤ length body.now }
         requires fits { length body.now ≤ max_body }
 
-        ensures ok { IfOk result (λ journal. (text : List ℕ) → told_text (R.reads rig.old slot) ≡ Some text
+        ensures ok { IfOk result (λ journal. (text : List ℕ) → told_text slot (R.reads rig.old slot) ≡ Some text
             → Holds (R.reads rig.new) (R.images rig.new (R.clock rig.new)) journal
             head.now (body.now ∷ []) (first_text head.now body.now)) }
         ensures settled { IfOk result (IsSettledWhereTold (R.reads rig.new) (R.images rig.new (R.clock rig.new))) }
@@ -56,9 +57,9 @@ impl Journal {
         ensures only_if_fault { HasSlotCause (R.faults rig.old slot) (R.faults rig.new slot) result }
 
         ensures any_moment { During R.clock R.images rig.old rig.new (InSlot (R.images rig.old (R.clock rig.old)) slot
-            (Makes (R.reads rig.old slot) head.now body.now)) }
+            (Makes slot (R.reads rig.old slot) head.now body.now)) }
         ensures counts { Spends R.syncs R.bytes_written R.bytes_read
-            slot MAKE_SYNCS (length body.now + 31) 1 rig.old rig.new }
+            slot make_syncs (length body.now + make_bytes) make_reads rig.old rig.new }
         ensures kept { KeepsOthers R.is_here R.reads R.said R.faults R.syncs R.bytes_written R.bytes_read
             slot 0 rig.old rig.new }
     {
@@ -84,17 +85,19 @@ impl Journal {
         requires here { R.is_here rig.old slot }
 
         // The bodies are those of the text in use, which is then all that a crash leaves in use.
-        ensures ok { IfOk result (λ read. (text : List ℕ) → told_text (R.reads rig.old slot) ≡ Some text
+        ensures ok { IfOk result (λ read. (text : List ℕ) → told_text slot (R.reads rig.old slot) ≡ Some text
             → Holds (R.reads rig.new) (R.images rig.new (R.clock rig.new)) read.0 head.now read.1 text) }
         ensures settled { IfOk result (λ read.
             IsSettledWhereTold (R.reads rig.new) (R.images rig.new (R.clock rig.new)) read.0) }
         ensures fresh { IfOk result (λ read. IsFresh read.0 slot) }
         ensures bad_slot { (at : ℕ) → IsErrOf result (BadSlot at) → (text : List ℕ)
-            → told_text (R.reads rig.old slot) ≡ Some text → IsBadText head.now text at }
+            → told_text slot (R.reads rig.old slot) ≡ Some text → IsBadText head.now text at }
+        ensures bad_durable { (at : ℕ) → IsErrOf result (BadSlot at) → (text : List ℕ)
+            → told_text slot (R.reads rig.old slot) ≡ Some text → HaveInUse (R.images rig.new (R.clock rig.new)) slot text }
         ensures spent { IsErrOf result Spent → ⊥ }
         ensures only_if_fault { HasSlotCause (R.faults rig.old slot) (R.faults rig.new slot) result }
-        ensures kept { OnlyReads R.is_here R.reads R.said R.clock R.images R.faults R.syncs R.bytes_written R.bytes_read
-            slot 0 1 rig.old rig.new }
+        ensures kept { OnlyReadsArea R.is_here R.reads R.said R.clock R.images R.faults R.syncs R.bytes_written R.bytes_read
+            slot 0 load_syncs rig.old rig.new }
     {
         let (gate, bodies) = read_text(alloc, rig, slot, head)?;
         let journal = Journal {
@@ -113,7 +116,7 @@ impl Journal {
         requires here { R.is_here rig.old (slot_of self.old) }
         requires some { 1 ≤ length body.now }
         requires fits { length body.now ≤ max_body }
-        requires room { length body.now + 5 ≤ room_of self.old }
+        requires room { length body.now + prefix_len ≤ room_of self.old }
         requires settled { is_spent self.old ≡ false
             → IsSettledWhereTold (R.reads rig.old) (R.images rig.old (R.clock rig.old)) self.old }
 
@@ -133,7 +136,7 @@ impl Journal {
             (InSlot (R.images rig.old (R.clock rig.old)) (slot_of self.old)
             (Commits (R.reads rig.old) (R.images rig.old (R.clock rig.old)) self.old body.now)) }
         ensures counts { Spends R.syncs R.bytes_written R.bytes_read
-            (slot_of self.old) COMMIT_SYNCS (length body.now + 6) 0 rig.old rig.new }
+            (slot_of self.old) commit_syncs (length body.now + commit_bytes) 0 rig.old rig.new }
         ensures kept { KeepsOthers R.is_here R.reads R.said R.faults R.syncs R.bytes_written R.bytes_read
             (slot_of self.old) (area_of self.old) rig.old rig.new }
     {
@@ -159,6 +162,3 @@ impl Journal {
         AREA_LIMIT.saturating_sub(self.gate.saturating_add(1))
     }
 }
-
-#[cfg(test)]
-mod tests;

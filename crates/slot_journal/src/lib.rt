@@ -29,7 +29,6 @@ pub use header::{Header, Owner};
 pub use journal::Journal;
 pub use laws::{bad_texts_have_one_place, texts_have_one_reading};
 pub use limits::{
-    AREA_LIMIT, CLOSED_GATE, COMMIT_SYNCS, HEAD_LEN, HEADER_LEN, KNOWN_FORMATS, MAKE_SYNCS,
-    MAX_BODY, OPEN_GATE,
+    AREA_LIMIT, CLOSED_GATE, HEAD_LEN, HEADER_LEN, KNOWN_FORMATS, MAX_BODY, OPEN_GATE,
 };
 pub use record::{read_body_len, record_prefix};

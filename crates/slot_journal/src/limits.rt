@@ -21,12 +21,6 @@ pub const MAX_BODY: usize = 1 << 26;
 /// The bytes that an area may be filled up to.
 pub const AREA_LIMIT: u64 = 1 << 40;
 
-/// The most syncs of a commit.
-pub const COMMIT_SYNCS: u64 = 2;
-
-/// The most syncs of making a journal.
-pub const MAKE_SYNCS: u64 = 4;
-
 /// The area that a text stands in. So far there is one.
 pub const AREA: u8 = 0;
 

@@ -3,7 +3,7 @@ ghost use Rattle.std.specs.Prelude.{◌≡◌, ◌≤◌, ℕ, List, Some, IfOk,
 ghost use Rattle.rig_disk.specs.During.{Only};
 ghost use Rattle.slot_journal.specs.InUse.{told_text};
 ghost use Rattle.slot_journal.specs.Text.{IsText, IsBadText};
-ghost use Rattle.slot_journal.specs.Reading.{HasSlotCause, OnlyReads};
+ghost use Rattle.slot_journal.specs.Reading.{HasSlotCause, OnlyReadsArea};
 ghost use Rattle.slot_journal.specs.declared.fault.JournalFault.TheVariants.{BadSlot, Spent};
 
 use crate::check::bad_header;
@@ -22,15 +22,17 @@ pub fn read_text<R: Rig>(
 ) -> Result<(u64, Bodies), JournalFault>
     requires slot { slot ≤ 16 }
     requires here { R.is_here rig.old slot }
-    ensures value { IfOk result (λ read. (text : List ℕ) → told_text (R.reads rig.old slot) ≡ Some text
+    ensures value { IfOk result (λ read. (text : List ℕ) → told_text slot (R.reads rig.old slot) ≡ Some text
         → IsText head.now read.1 read.0 text) }
     ensures bad_slot { (at : ℕ) → IsErrOf result (BadSlot at) → (text : List ℕ)
-        → told_text (R.reads rig.old slot) ≡ Some text → IsBadText head.now text at }
+        → told_text slot (R.reads rig.old slot) ≡ Some text → IsBadText head.now text at }
     ensures spent { IsErrOf result Spent → ⊥ }
     ensures durable { OnOk result ((there : List ℕ) → R.reads rig.new slot 0 ≡ Some there
         → Only R.clock R.images rig.new slot 0 there) }
+    ensures bad_durable { (at : ℕ) → IsErrOf result (BadSlot at) → (there : List ℕ) → R.reads rig.new slot 0 ≡ Some there
+        → Only R.clock R.images rig.new slot 0 there }
     ensures cause { HasSlotCause (R.faults rig.old slot) (R.faults rig.new slot) result }
-    ensures kept { OnlyReads R.is_here R.reads R.said R.clock R.images R.faults R.syncs R.bytes_written R.bytes_read
+    ensures kept { OnlyReadsArea R.is_here R.reads R.said R.clock R.images R.faults R.syncs R.bytes_written R.bytes_read
         slot 0 1 rig.old rig.new }
 {
     let len = sync_and_measure(rig, slot)?;

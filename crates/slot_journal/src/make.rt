@@ -5,7 +5,7 @@ ghost use Rattle.rig_disk.specs.During.{During, Only};
 ghost use Rattle.rig_disk.specs.Faults.{HasCause};
 ghost use Rattle.rig_disk.specs.Frame.{Spends, KeepsOthers};
 ghost use Rattle.slot_journal.specs.Header.{open_gate};
-ghost use Rattle.slot_journal.specs.Reading.{OnlyReads};
+ghost use Rattle.slot_journal.specs.Reading.{OnlyReadsArea};
 ghost use Rattle.slot_journal.specs.Text.{max_body};
 ghost use Rattle.slot_journal.specs.Writing.{KeepsFront, behind_gate, IsShut, IsUnshut, IsSameOrVoid, IsVoidOrFirst, ReadsBytes, first_text};
 
@@ -24,7 +24,7 @@ fn is_shut<R: Rig>(rig: &mut R, slot: u8) -> Result<bool, Failed>
         → IsUnshut there) }
     ensures cause { HasCause (R.faults rig.old slot) (R.faults rig.new slot) result }
     ensures counts { Spends R.syncs R.bytes_written R.bytes_read slot 0 0 1 rig.old rig.new }
-    ensures kept { OnlyReads R.is_here R.reads R.said R.clock R.images R.faults R.syncs R.bytes_written R.bytes_read
+    ensures kept { OnlyReadsArea R.is_here R.reads R.said R.clock R.images R.faults R.syncs R.bytes_written R.bytes_read
         slot 0 0 rig.old rig.new }
 {
     let len = rig.length(slot, AREA)?;
@@ -52,7 +52,7 @@ pub fn shut<R: Rig>(rig: &mut R, slot: u8) -> Result<(), Failed>
     ensures kept { KeepsOthers R.is_here R.reads R.said R.faults R.syncs R.bytes_written R.bytes_read
         slot 0 rig.old rig.new }
 {
-    rig.sync(slot, AREA)?;
+    rig.sync(slot, AREA)?; // The gate that is read is then the one on the disk.
     if is_shut(rig, slot)? {
         return Ok(());
     }

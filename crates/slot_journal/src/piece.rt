@@ -3,7 +3,7 @@ ghost use Rattle.std.specs.Prelude.{◌≡◌, ◌≤◌, ◌<◌, ◌⊎◌, �
 ghost use Rattle.rig_disk.specs.Faults.{HasCause};
 ghost use Rattle.rig_disk.specs.During.{Only};
 ghost use Rattle.slot_journal.specs.declared.fault.JournalFault.TheVariants.{Failed as SlotFailed, NoMemory as OutOfMemory};
-ghost use Rattle.slot_journal.specs.Reading.{HasSlotCause, OnlyReads, IsPiece, ShowsPrefix};
+ghost use Rattle.slot_journal.specs.Reading.{HasSlotCause, OnlyReadsArea, IsPiece, ShowsPrefix};
 
 use crate::JournalFault;
 use crate::limits::{AREA, PIECE_LEN, PREFIX_LEN};
@@ -11,7 +11,7 @@ use rig_disk::{Failed, Rig};
 use std::alloc::Global;
 
 /// Some bytes of a text.
-#[derive(Debug, Drop)]
+#[derive(Drop)]
 pub struct Piece {
     /// The place of the first of them.
     pub start: u64,
@@ -26,7 +26,7 @@ pub fn sync_and_measure<R: Rig>(rig: &mut R, slot: u8) -> Result<u64, Failed>
     ensures durable { OnOk result ((there : List ℕ) → R.reads rig.new slot 0 ≡ Some there
         → Only R.clock R.images rig.new slot 0 there) }
     ensures cause { HasCause (R.faults rig.old slot) (R.faults rig.new slot) result }
-    ensures kept { OnlyReads R.is_here R.reads R.said R.clock R.images R.faults R.syncs R.bytes_written R.bytes_read
+    ensures kept { OnlyReadsArea R.is_here R.reads R.said R.clock R.images R.faults R.syncs R.bytes_written R.bytes_read
         slot 0 1 rig.old rig.new }
 {
     rig.sync(slot, AREA)?;
@@ -51,7 +51,7 @@ pub fn read_piece<R: Rig>(
         → piece.new.bytes.items ≡ take count (drop start there)) }
     ensures plain { IfErr result (λ fault. (fault ≡ SlotFailed) ⊎ (fault ≡ OutOfMemory)) }
     ensures cause { HasSlotCause (R.faults rig.old slot) (R.faults rig.new slot) result }
-    ensures kept { OnlyReads R.is_here R.reads R.said R.clock R.images R.faults R.syncs R.bytes_written R.bytes_read
+    ensures kept { OnlyReadsArea R.is_here R.reads R.said R.clock R.images R.faults R.syncs R.bytes_written R.bytes_read
         slot 0 0 rig.old rig.new }
 {
     piece.bytes.resize(count, 0)?;
@@ -78,7 +78,7 @@ pub fn first_piece<R: Rig>(
         → len ≡ length there → min 24 len ≤ length piece.bytes.items) }
     ensures plain { IfErr result (λ fault. (fault ≡ SlotFailed) ⊎ (fault ≡ OutOfMemory)) }
     ensures cause { HasSlotCause (R.faults rig.old slot) (R.faults rig.new slot) result }
-    ensures kept { OnlyReads R.is_here R.reads R.said R.clock R.images R.faults R.syncs R.bytes_written R.bytes_read
+    ensures kept { OnlyReadsArea R.is_here R.reads R.said R.clock R.images R.faults R.syncs R.bytes_written R.bytes_read
         slot 0 0 rig.old rig.new }
 {
     let count = u64::min(len, PIECE_LEN as u64) as usize;
@@ -126,7 +126,7 @@ pub fn refill<R: Rig>(
         → ShowsPrefix there at (drop (at - piece.new.start) piece.new.bytes.items)) }
     ensures plain { IfErr result (λ fault. (fault ≡ SlotFailed) ⊎ (fault ≡ OutOfMemory)) }
     ensures cause { HasSlotCause (R.faults rig.old slot) (R.faults rig.new slot) result }
-    ensures kept { OnlyReads R.is_here R.reads R.said R.clock R.images R.faults R.syncs R.bytes_written R.bytes_read
+    ensures kept { OnlyReadsArea R.is_here R.reads R.said R.clock R.images R.faults R.syncs R.bytes_written R.bytes_read
         slot 0 0 rig.old rig.new }
 {
     if ahead(piece, at).len() >= PREFIX_LEN {

@@ -3,7 +3,7 @@ ghost use Rattle.std.specs.Prelude.{◌≡◌, ◌≢◌, ◌≤◌, ◌<◌, �
 ghost use Rattle.rig_disk.specs.Faults.{HasCause};
 ghost use Rattle.slot_journal.specs.Header.{open_gate};
 ghost use Rattle.slot_journal.specs.Text.{max_body, FailsAt};
-ghost use Rattle.slot_journal.specs.Reading.{HasSlotCause, OnlyReads, IsPiece, IsRecordAt, IsReadUpTo};
+ghost use Rattle.slot_journal.specs.Reading.{HasSlotCause, OnlyReadsArea, IsPiece, IsRecordAt, IsReadUpTo};
 ghost use Rattle.slot_journal.specs.declared.fault.JournalFault.TheVariants.{BadSlot, Spent};
 
 use crate::limits::{AREA, PREFIX_LEN};
@@ -43,7 +43,7 @@ fn fill_behind<R: Rig>(
         → at + length body.old ≤ length there
         → body.new ≡ take known body.old ++ take (length body.old - known) (drop (at + known) there)) }
     ensures cause { HasCause (R.faults rig.old slot) (R.faults rig.new slot) result }
-    ensures kept { OnlyReads R.is_here R.reads R.said R.clock R.images R.faults R.syncs R.bytes_written R.bytes_read
+    ensures kept { OnlyReadsArea R.is_here R.reads R.said R.clock R.images R.faults R.syncs R.bytes_written R.bytes_read
         slot 0 0 rig.old rig.new }
 {
     let n = rig.read_at(slot, AREA, at + known as u64, &mut body[known..])?;
@@ -71,7 +71,7 @@ fn read_body<R: Rig>(
         → length there < at + len }
     ensures spent { IsErrOf result Spent → ⊥ }
     ensures cause { HasSlotCause (R.faults rig.old slot) (R.faults rig.new slot) result }
-    ensures kept { OnlyReads R.is_here R.reads R.said R.clock R.images R.faults R.syncs R.bytes_written R.bytes_read
+    ensures kept { OnlyReadsArea R.is_here R.reads R.said R.clock R.images R.faults R.syncs R.bytes_written R.bytes_read
         slot 0 0 rig.old rig.new }
 {
     if known.len() >= len {
@@ -113,7 +113,7 @@ pub fn next_record<R: Rig>(
         → FailsAt (drop at there) at p }
     ensures spent { IsErrOf result Spent → ⊥ }
     ensures cause { HasSlotCause (R.faults rig.old slot) (R.faults rig.new slot) result }
-    ensures kept { OnlyReads R.is_here R.reads R.said R.clock R.images R.faults R.syncs R.bytes_written R.bytes_read
+    ensures kept { OnlyReadsArea R.is_here R.reads R.said R.clock R.images R.faults R.syncs R.bytes_written R.bytes_read
         slot 0 0 rig.old rig.new }
 {
     refill(rig, slot, len, at, piece)?;

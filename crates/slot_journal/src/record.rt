@@ -30,25 +30,3 @@ pub fn read_body_len(rest: &[u8], rest_len: u64) -> Option<usize>
     }
     Some(len)
 }
-
-#[cfg(test)]
-mod tests {
-    use super::*;
-
-    // From the format: four bytes, the highest first, from 1 to 2^26, and a body that is there.
-    #[test]
-    fn a_length_is_read_where_it_is_one(rt: HostRuntime) {
-        assert_eq!(rt; record_prefix(0x0102_0304), [0x4f, 1, 2, 3, 4]);
-        let rows: [([u8; 4], u64, Option<usize>); 5] = [
-            ([0, 0, 1, 2], 262, Some(258)),
-            ([0, 0, 1, 2], 261, None),
-            ([0, 0, 0, 0], 100, None),
-            ([4, 0, 0, 0], 1 << 40, Some(1 << 26)),
-            ([4, 0, 0, 1], 1 << 40, None),
-        ];
-        for (bytes, rest_len, len) in rows {
-            assert_eq!(rt; read_body_len(&bytes, rest_len), len, "at {bytes:?}");
-        }
-        assert_eq!(rt; read_body_len(&[0, 0, 1], 100), None);
-    }
-}

@@ -1,6 +1,6 @@
 //! All records of a text.
 ghost use Rattle.std.specs.Prelude.{◌≡◌, ◌≢◌, ◌≤◌, ◌<◌, ◌^◌, ℕ, List, length, Some, IfOk, IsErrOf};
-ghost use Rattle.slot_journal.specs.Reading.{HasSlotCause, OnlyReads, IsPiece, StopsAt, BreaksAt};
+ghost use Rattle.slot_journal.specs.Reading.{HasSlotCause, OnlyReadsArea, IsPiece, StopsAt, BreaksAt};
 ghost use Rattle.slot_journal.specs.declared.fault.JournalFault.TheVariants.{BadSlot, Spent};
 
 use crate::limits::PREFIX_LEN;
@@ -31,7 +31,7 @@ pub fn read_records<R: Rig>(
         → BreaksAt there p }
     ensures spent { IsErrOf result Spent → ⊥ }
     ensures cause { HasSlotCause (R.faults rig.old slot) (R.faults rig.new slot) result }
-    ensures kept { OnlyReads R.is_here R.reads R.said R.clock R.images R.faults R.syncs R.bytes_written R.bytes_read
+    ensures kept { OnlyReadsArea R.is_here R.reads R.said R.clock R.images R.faults R.syncs R.bytes_written R.bytes_read
         slot 0 0 rig.old rig.new }
 {
     let mut bodies = Vec::new(alloc);

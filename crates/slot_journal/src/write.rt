@@ -4,6 +4,7 @@ ghost use Rattle.rig_disk.specs.Disk.{From, on_told, written};
 ghost use Rattle.rig_disk.specs.During.{During, Only};
 ghost use Rattle.rig_disk.specs.Faults.{HasCause};
 ghost use Rattle.rig_disk.specs.Frame.{Spends, KeepsOthers};
+ghost use Rattle.slot_journal.specs.Limits.{area_limit, commit_bytes, commit_syncs, prefix_len};
 ghost use Rattle.slot_journal.specs.Text.{IsText, max_body};
 ghost use Rattle.slot_journal.specs.Writing.{KeepsFront, behind_gate, next_gate, IsBeforeOrAfter, IsAtRest, ReadsAsText, ReadsBytes};
 
@@ -23,14 +24,14 @@ pub fn append_record<R: Rig>(
     requires area { area ≤ 1 }
     requires here { R.is_here rig.old slot }
     requires fits { length body.now ≤ max_body }
-    requires room { at + length body.now + 5 ≤ 2 ^ 40 }
+    requires room { at + length body.now + prefix_len ≤ area_limit }
     requires at { (there : List ℕ) → R.reads rig.old slot area ≡ Some there → at ≤ length there }
     ensures written { OnOk result (R.reads rig.new slot area
         ≡ on_told (written at (behind_gate body.now)) (R.reads rig.old slot area)) }
     ensures any_moment { During R.clock R.images rig.old rig.new
         (From (R.images rig.old (R.clock rig.old)) slot area (KeepsFront at)) }
     ensures cause { HasCause (R.faults rig.old slot) (R.faults rig.new slot) result }
-    ensures counts { Spends R.syncs R.bytes_written R.bytes_read slot 0 (length body.now + 5) 0 rig.old rig.new }
+    ensures counts { Spends R.syncs R.bytes_written R.bytes_read slot 0 (length body.now + prefix_len) 0 rig.old rig.new }
     ensures kept { KeepsOthers R.is_here R.reads R.said R.faults R.syncs R.bytes_written R.bytes_read
         slot area rig.old rig.new }
 {
@@ -55,7 +56,7 @@ pub fn commit_record<R: Rig>(
     requires here { R.is_here rig.old slot }
     requires some { 1 ≤ length body.now }
     requires fits { length body.now ≤ max_body }
-    requires room { gate + length body.now + 6 ≤ 2 ^ 40 }
+    requires room { gate + length body.now + commit_bytes ≤ area_limit }
     requires settled { (there : List ℕ) → R.reads rig.old slot area ≡ Some there
         → Only R.clock R.images rig.old slot area there × IsAtRest there gate }
     ensures done { OnOk result ((was : ReadsAsText (R.reads rig.old slot area) gate) → (after : List ℕ)
@@ -67,7 +68,7 @@ pub fn commit_record<R: Rig>(
         (λ _ c. (was : ReadsAsText (R.reads rig.old slot area) gate)
         → IsBeforeOrAfter was.head was.bodies body.now gate c)) }
     ensures cause { HasCause (R.faults rig.old slot) (R.faults rig.new slot) result }
-    ensures counts { Spends R.syncs R.bytes_written R.bytes_read slot 2 (length body.now + 6) 0 rig.old rig.new }
+    ensures counts { Spends R.syncs R.bytes_written R.bytes_read slot commit_syncs (length body.now + commit_bytes) 0 rig.old rig.new }
     ensures kept { KeepsOthers R.is_here R.reads R.said R.faults R.syncs R.bytes_written R.bytes_read
         slot area rig.old rig.new }
 {

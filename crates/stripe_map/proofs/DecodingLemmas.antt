@@ -16,6 +16,7 @@ use Rattle.ec_model.proofs.StripeLemmas.{flat_map_same, chunks_in_a_row, length-
 use Rattle.gf256.proofs.CallerLemmas.{zero-field_product, one-field_product, field_product_comm, field_product_assoc}
 use Rattle.ec_matrix.proofs.CallerLemmas.{sum_below-same, sum_below-single, sum_below-times, sum_below-exchange}
 use Rattle.stripe_map.specs.Decoding.{list_at, stripe_of, stripes_of, AreDataLists}
+use Rattle.stripe_map.specs.DecodingLaws.{SumIsTheList}
 use Rattle.stripe_map.proofs.EncodingLemmas.{times_next}
 
 -- a sum of multiples of rows, times some bytes: the sum of the multiples of the rows' products with them
@@ -57,6 +58,10 @@ sum_is_position_list code unit bytes from p c lists list few makes each long sum
       ])
       ∙ sym (combined_sum code.n code.k (slice_index c) (entry_at code.rows p) (λ j. slice_index (padded code.k unit bytes) ((t * code.k + j) * unit + b)) (entry_at code.rows) makes.makes);
 }
+
+pub sum_is_the_list : SumIsTheList
+sum_is_the_list code unit set p bytes coefficients lists list is makes each long sums =
+    sum_is_position_list code unit bytes set p coefficients lists list is.few makes each long sums
 
 -- a byte of a chunk in a list of chunks
 pub chunk_byte : (unit : ℕ) (list : List ℕ) (index b : ℕ) → b < unit → slice_index (chunk_at unit list index) b ≡ slice_index list (index * unit + b)

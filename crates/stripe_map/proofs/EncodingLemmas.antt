@@ -1,6 +1,5 @@
 -- The list of a position, written stripe after stripe, with the last stripe padded.
-use Rattle.std.specs.Result.{OnOk}
-use Rattle.std.proofs.Common.{Result, Ok, Err, ◌≡◌, ℕ, List, ◌+◌, ◌-◌, ◌*◌, ◌/◌, ◌<◌, ◌≤◌, ◌++◌, length, slice_index, take, drop, replicate, ap, sym, subst, ◌∙◌, arith, inl, inr, length-append, length-drop}
+use Rattle.std.proofs.Common.{◌≡◌, ℕ, List, ◌+◌, ◌-◌, ◌*◌, ◌/◌, ◌<◌, ◌≤◌, ◌++◌, length, slice_index, take, drop, replicate, ap, sym, subst, ◌∙◌, arith, inl, inr, length-append, length-drop}
 use Rattle.std.specs.Int.{div_ceil}
 use Rattle.std.proofs.lemmas.Bool.{cases_eq}
 use Rattle.std.proofs.lemmas.List.{get_or_append_left, get_or-append_right, get_or-take, get_or-drop, length-replicate, drop-append-le, take_all}
@@ -97,8 +96,3 @@ position_list code k unit row bytes p list same entries long has = record {
       (λ j. field_product (entry_at code.rows p j) (slice_index (padded code.k unit bytes) ((t * code.k + j) * unit + b)))
       (λ j lj. ap (λ e. field_product e (slice_index (padded code.k unit bytes) ((t * code.k + j) * unit + b))) (entries j lj));
 }
-
--- what follows of two facts after Ok
-pub on_ok_both : {T E A B C : Type 0} → (answer : Result T E) → OnOk answer A → OnOk answer B → (A → B → C) → OnOk answer C
-on_ok_both {T} {E} {A} {B} {C} (Ok done) a b so = so a b
-on_ok_both {T} {E} {A} {B} {C} (Err why) a b so = tt

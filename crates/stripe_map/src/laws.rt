@@ -1,5 +1,5 @@
 //! What holds of the definitions.
-ghost use Rattle.stripe_map.specs.DecodingLaws.{DataIsItsMask};
+ghost use Rattle.stripe_map.specs.DecodingLaws.{DataIsItsMask, DataMaskLiesBelow, SumIsTheList};
 ghost use Rattle.stripe_map.specs.AssemblingLaws.{MadeIsTheObject};
 
 /// That a set decides all data positions says the same as that it decides their mask.
@@ -7,7 +7,17 @@ pub fn data_positions_are_a_mask()
     ensures { DataIsItsMask }
 {}
 
+/// The mask of the data positions lies below n.
+pub fn data_mask_lies_below()
+    ensures { DataMaskLiesBelow }
+{}
+
 /// What the chunks of a set that decides the data positions make is the object that they are of.
 pub fn what_is_made_is_the_object()
     ensures { MadeIsTheObject }
+{}
+
+/// The list of a position follows from those of a set that decides it, whatever else the set decides.
+pub fn sum_of_lists_is_the_list()
+    ensures { SumIsTheList }
 {}

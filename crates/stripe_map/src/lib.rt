@@ -21,12 +21,15 @@ mod limits;
 mod sizes;
 mod touch;
 
-pub use assembling::{add_position, object_of_zeros};
+pub use assembling::add_position;
 pub use chunks::Chunks;
-pub use combining::data_rows;
+pub use combining::{data_rows, make_piece};
 pub use decoding::{DecodeFault, decode_object};
-pub use encoding::{encode_into, encode_object};
-pub use laws::{data_positions_are_a_mask, what_is_made_is_the_object};
+pub use encoding::encode_object;
+pub use laws::{
+    data_mask_lies_below, data_positions_are_a_mask, sum_of_lists_is_the_list,
+    what_is_made_is_the_object,
+};
 pub use limits::{ALIGNMENT, MAX_BUFFER, MAX_OBJECT};
 pub use sizes::chunk_size;
 pub use touch::touched;

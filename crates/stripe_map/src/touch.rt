@@ -19,26 +19,3 @@ pub fn touched(g: Geometry, off: u32, len: u32) -> (u32, u32)
     let last = (u64::from(off) + u64::from(len) - 1) / width;
     (first as u32, (last - first + 1) as u32)
 }
-
-#[cfg(test)]
-mod tests {
-    use super::*;
-
-    // By hand: a stripe has 64 bytes. (2^32 - 1) / 64 is 67,108,863, and (2^33 - 3) / 64 is 134,217,727.
-    #[test]
-    fn a_byte_past_the_stripe_touches_the_next(rt: HostRuntime) {
-        let g = Geometry { k: 2, unit: 32 };
-        for (off, len, stripes) in [
-            (0, 0, (0, 0)),
-            (70, 0, (0, 0)),
-            (0, 64, (0, 1)),
-            (0, 65, (0, 2)),
-            (63, 1, (0, 1)),
-            (63, 2, (0, 2)),
-            (64, 64, (1, 1)),
-            (u32::MAX, u32::MAX, (67_108_863, 67_108_865)),
-        ] {
-            assert_eq!(rt; touched(g, off, len), stripes, "{len} bytes at {off}");
-        }
-    }
-}

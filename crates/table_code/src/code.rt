@@ -8,14 +8,14 @@ use crate::table::Table;
 use ec_code::{Code, Profile, ProfileFault, Shape, encode_rows};
 use shec_matrix::Shec;
 
-#[derive(Clone, Copy, Debug)]
+#[derive(Clone, Copy)]
 enum Held {
     Given(Table),
     Made(Shec),
 }
 
 /// A code of given rows, until `init` makes it the code of a profile of the plugin shec.
-#[derive(Clone, Copy, Debug)]
+#[derive(Clone, Copy)]
 pub struct TableCode {
     held: Held,
 }
@@ -84,6 +84,3 @@ impl Code for TableCode {
         }
     }
 }
-
-#[cfg(test)]
-mod tests;

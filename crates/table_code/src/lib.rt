@@ -12,6 +12,3 @@ mod code;
 mod table;
 
 pub use code::TableCode;
-
-#[cfg(test)]
-mod deciding_tests;

@@ -7,7 +7,7 @@ ghost use Rattle.ec_code.specs.Tables.{code_of};
 use ec_code::Shape;
 
 /// Rows and data positions that are those of a code.
-#[derive(Clone, Copy, Debug)]
+#[derive(Clone, Copy)]
 pub struct Table {
     pub k: u8,
     pub n: u8,

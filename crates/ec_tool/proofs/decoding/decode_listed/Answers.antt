@@ -112,6 +112,6 @@ returns-clause-value g c =
     let writes2 = subst (λ (u : ℕ). WritesMadeOrStops code.k u c.shape.result.n rows chunks (long / u) mid now job.name answer) c.requires.unit writes1 in
     let writes3 = subst (λ (n : ℕ). WritesMadeOrStops code.k job.unit n rows chunks (long / job.unit) mid now job.name answer) c.shape.ensures.0.same_n writes2 in
     let writes = subst (λ (b : Option FileMap). WritesMadeOrStops code.k job.unit code.n rows chunks (long / job.unit) b now job.name answer) c.in_ok-chunks.ensures.kept writes3 in
-    decode_written code job before now was is rows chunks long set code.n (long / job.unit) answer below decide has plan (read_needs code job.wanted set is_code below plan) listed
-    (λ found made. (whole, few, made_file code job.unit set long rows chunks job.wanted found is_code some_unit c.data_rows-rows.ensures listed inside there whole made))
+    decode_written code job before now was is rows chunks long set code.n (long / job.unit) answer below decide has plan (read_needs code job.wanted set is_code below plan) listed whole few
+    (λ found made. made_file code job.unit set long rows chunks job.wanted found is_code some_unit c.data_rows-rows.ensures listed inside there whole made)
     writes (λ e. subst (λ (w : ℕ). Rose w is) quiet (c.write_object.ensures.failed e)) (λ ne. c.write_object.ensures.quiet ne ∙ quiet)

@@ -1,6 +1,7 @@
 use Rattle.std.proofs.Common.{inr, subst}
 use Rattle.ec_code.specs.declared.fault.ProfileFault.{ProfileFault}
-use Rattle.plugin_reg.proofs.CallerLemmas.{same_fault, element}
+use Rattle.plugin_reg.proofs.CallerLemmas.{element}
+use Rattle.profile_texts.proofs.FaultLemmas.{same_fault}
 use Rattle.plugin_reg.specs.Opening.{IsRefused}
 use Rattle.plugin_reg.proofs.opening.open_profile.Goals as goal
 

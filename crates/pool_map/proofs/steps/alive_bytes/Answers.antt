@@ -1,5 +1,5 @@
 use Rattle.std.proofs.Common.{rules}
-use Rattle.shard_model.specs.StepBytes.{version_bytes}
+use Rattle.ec_words.specs.Readers.{version_bytes}
 use Rattle.pool_map.proofs.steps.alive_bytes.Goals as goal
 
 pub returns : goal.returns

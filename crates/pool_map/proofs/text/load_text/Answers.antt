@@ -33,3 +33,8 @@ returns-clause-long g c = λ text told.
 pub returns-in_err-journal-clause-no_memory : goal.returns-in_err-journal-clause-no_memory
 returns-in_err-journal-clause-no_memory g c = λ e text told.
     (open_told (g.R.Rig.reads c.args.rig.now 16 0) text c.read_front.new.front told (c.in_ok-read_front.ensures.some (search rules))).0
+
+pub returns-in_err-journal-clause-bad_durable : goal.returns-in_err-journal-clause-bad_durable
+returns-in_err-journal-clause-bad_durable g c = λ e text told.
+    let at = bad_slot_of c.load.result c.from_residual-in_err-journal.result c.in_err-journal.field-0.0 c.in_err-journal.was c.from_residual-in_err-journal.ensures.1 e in
+    c.load.ensures.bad_durable at.0 at.1 text (ap (on_told open_text) c.read_front.ensures.kept.reads ∙ told)

@@ -26,3 +26,6 @@ returns-in-Err-NoMemory-clause-script g c = λ p script gives told. nothing_said
 pub returns-in-Err-Profile-clause-accepted : goal.returns-in-Err-Profile-clause-accepted
 returns-in-Err-Profile-clause-accepted g c = λ p gives. absurd (given_not_refused c.args.text.now p c.in-Err-Profile.fault gives
     (c.in-Err-Profile.ensures.refused c.in-Err-Profile.fault (ap Err c.in-Err-Profile.field-0-is)))
+
+pub returns-in-Ok-clause-at_once : goal.returns-in-Ok-clause-at_once
+returns-in-Ok-clause-at_once g c = λ f is. absurd (given_not_refused c.args.text.now c.in-Ok.opened.profile f c.in-Ok.ensures.gives is)

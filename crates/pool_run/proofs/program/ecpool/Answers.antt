@@ -1,12 +1,12 @@
-use Rattle.std.proofs.Common.{List, ℕ, inr, sym, subst, ◌∙◌, arith}
+use Rattle.std.proofs.Common.{List, ℕ, inr, refl, sym, subst, ◌∙◌, arith}
 use Rattle.plugin_reg.specs.Opening.{GivesProfile, IsRefused}
 use Rattle.pool_run.specs.Profiles.{SaysFault}
 use Rattle.pool_run.proofs.StatusLemmas.{completed, long_script, not_2}
-use Rattle.pool_run.proofs.RequestLemmas.{same_try, wrong_for, try_for, show_for, input_for}
+use Rattle.pool_run.proofs.RequestLemmas.{same_try, wrong_for, try_for, show_for, input_for, wrong_needs, try_needs, input_needs}
 use Rattle.pool_run.proofs.program.ecpool.Goals as goal
 
-pub returns-in-Wrong-clause-headline : goal.returns-in-Wrong-clause-headline
-returns-in-Wrong-clause-headline g c = λ profile script p ask gives told. absurd ((c.in-Wrong.ensures profile).0 ask)
+pub returns-in-Wrong-clause-tried : goal.returns-in-Wrong-clause-tried
+returns-in-Wrong-clause-tried g c = λ profile script p ask gives told. absurd ((c.in-Wrong.ensures profile).0 ask)
 
 pub returns-in-Wrong-clause-complete : goal.returns-in-Wrong-clause-complete
 returns-in-Wrong-clause-complete g c = λ profile script p ask gives told quiet voice. absurd ((c.in-Wrong.ensures profile).0 ask)
@@ -23,8 +23,8 @@ returns-in-Wrong-clause-status_12 g c = λ profile script p ask gives told. absu
 pub returns-in-Wrong-clause-long_profile : goal.returns-in-Wrong-clause-long_profile
 returns-in-Wrong-clause-long_profile g c = λ input ask told. absurd ((c.in-Wrong.ensures _).1 ask)
 
-pub returns-in-Try-clause-headline : goal.returns-in-Try-clause-headline
-returns-in-Try-clause-headline g c = λ profile script p ask gives told.
+pub returns-in-Try-clause-tried : goal.returns-in-Try-clause-tried
+returns-in-Try-clause-tried g c = λ profile script p ask gives told.
     let same = c.as_bytes.ensures.value ∙ same_try c.args.words.now _ profile c.in-Try.ensures ask in
     c.try_profile.ensures.script p script (subst (λ (t : List ℕ). GivesProfile t p) (sym same) gives) told
 
@@ -40,6 +40,22 @@ returns-in-Try-clause-refused g c = λ profile f asks is.
     let same = c.as_bytes.ensures.value ∙ try_for c.args.words.now _ _ profile c.in-Try.ensures asks in
     subst (λ (t : List ℕ). SaysFault t c.try_profile.result.0 (g.R.Rig.said c.args.rig.now) (g.R.Rig.said c.try_profile.new.rig)) same
     (c.try_profile.ensures.refused f (subst (λ (t : List ℕ). IsRefused t f) (sym same) is))
+
+pub returns-in-Wrong-clause-at_once : goal.returns-in-Wrong-clause-at_once
+returns-in-Wrong-clause-at_once g c = λ profile needs. absurd (wrong_needs c.args.words.now profile c.in-Wrong.ensures needs)
+
+pub returns-in-Try-clause-at_once : goal.returns-in-Try-clause-at_once
+returns-in-Try-clause-at_once g c = λ profile needs.
+    let found = try_needs c.args.words.now _ profile c.in-Try.ensures needs in
+    let same = c.as_bytes.ensures.value ∙ found.0 in
+    let ended = c.try_profile.ensures.at_once found.1.0 (subst (λ (t : List ℕ). IsRefused t found.1.0) (sym same) found.1.1) in
+    (inr ended.0, ended.1)
+
+pub returns-in-Show-clause-at_once : goal.returns-in-Show-clause-at_once
+returns-in-Show-clause-at_once g c = λ profile needs. (c.show_profile.ensures.statuses, refl)
+
+pub returns-in-ShowInput-clause-at_once : goal.returns-in-ShowInput-clause-at_once
+returns-in-ShowInput-clause-at_once g c = λ profile needs. absurd (input_needs c.args.words.now profile c.in-ShowInput.ensures needs)
 
 pub returns-in-Try-clause-status_2 : goal.returns-in-Try-clause-status_2
 returns-in-Try-clause-status_2 g c =

@@ -8,7 +8,7 @@ invariant-loop-line g l =
     let faults = g.R.Rig.faults in
     let code = (goal.Code-dyn g l.code.now).meaning l.code.now.1 in
     record {
-      answered : Answered code l.unit (map (λ x. x.now) (take l.line-index l.line-items)) l.objects l.all_done (g.R.Rig.said l.initial.rig) (g.R.Rig.said l.rig);
+      answered : Answered code l.unit (map (λ x. x.now) (take l.line-index l.line-items)) l.session.objects l.session.all_done (g.R.Rig.said l.initial.rig) (g.R.Rig.said l.rig);
       quiet : faults l.rig VOICE ≡ faults l.initial.rig VOICE;
       slots : (slot : ℕ) → slot ≢ VOICE → faults l.rig slot ≡ faults l.initial.rig slot;
     }

@@ -3,12 +3,15 @@ use Rattle.shard_state.proofs.DecodingLemmas.{read_on, read_less, first_bad}
 use Rattle.shard_state.proofs.decoding.decode_steps.Goals as goal
 
 pub loop-reader-smaller : goal.loop-reader-smaller
-loop-reader-smaller c = read_less c.loop-reader.reader c.read_step.new.reader c.in-Ok.step c.loop-reader.invariant.bytes c.in-Ok.ensures.value
+loop-reader-smaller c =
+    let read = c.in-Ok.ensures.ok in
+    read_less c.loop-reader.reader c.next_step.new.reader read.0 c.loop-reader.invariant.bytes read.1
 
 pub loop-reader-preserved : goal.loop-reader-preserved
 loop-reader-preserved c =
-    read_on c.args.text.now c.loop-reader.list.items c.push.new.self.items c.loop-reader.reader c.read_step.new.reader c.in-Ok.step
-    c.loop-reader.invariant c.in-Ok.ensures.value c.in-Ok-push.ensures.items
+    let read = c.in-Ok.ensures.ok in
+    read_on c.args.text.now c.loop-reader.list.items c.next_step.new.list.items c.loop-reader.reader c.next_step.new.reader read.0
+    c.loop-reader.invariant read.1 read.2
 
 pub returns-in-Err-NoStep-clause-bad_step : goal.returns-in-Err-NoStep-clause-bad_step
 returns-in-Err-NoStep-clause-bad_step c =

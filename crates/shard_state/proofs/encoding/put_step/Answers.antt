@@ -1,17 +1,19 @@
-use Rattle.std.proofs.Common.{◌≡◌, ◌∷◌, [], ◌++◌, sym, ap, subst, ◌∙◌, OnOk}
-use Rattle.std.specs.Int.{bytes_high_first}
-use Rattle.shard_model.specs.StepBytes.{head_bytes, counted_bytes, step_bytes}
+use Rattle.std.proofs.Common.{◌≡◌, ◌∷◌, ◌++◌, sym, ap, subst, ◌∙◌, OnOk}
+use Rattle.std.proofs.lemmas.List.{append_assoc}
+use Rattle.shard_model.specs.StepBytes.{head_bytes, change_bytes, change_number, step_bytes, HasShortLists}
+use Rattle.shard_state.specs.Doing.{change_in}
 use Rattle.shard_state.specs.StepMeanings.{step_of}
-use Rattle.shard_state.proofs.EncodingLemmas.{five_parts}
 use Rattle.shard_state.proofs.encoding.put_step.Goals as goal
 
-pub returns-in_ok-put_u32-in-Write-2 : goal.returns-in_ok-put_u32-in-Write-2
-returns-in_ok-put_u32-in-Write-2 c =
-    let w = c.in-Write in
-    let head = 1 ∷ head_bytes (w.version, (w.prior, w.name)) in
-    subst (λ t. OnOk c.put_counted.result (c.put_counted.new.out ≡ t))
-    (five_parts c.args.out.now head (w.fresh ∷ []) (bytes_high_first 4 w.size) (bytes_high_first 4 w.at) (counted_bytes w.bytes)
-    c.put_head.new.out c.put_bytes.new.out c.put_u32.new.out c.put_u32-in-Write.new.out
-    c.in_ok-put_head-in-Write.ensures c.in_ok-put_bytes-in-Write.ensures.ok c.in_ok-put_u32-in-Write.ensures.ok c.in_ok-put_u32-in-Write-2.ensures.ok
-    ∙ ap (λ s. c.args.out.now ++ step_bytes (step_of s)) (sym w.is))
-    c.put_counted.ensures
+pub put_change-requires-clause-short : goal.put_change-requires-clause-short
+put_change-requires-clause-short c = subst HasShortLists c.in-Some.ensures.entry c.requires
+
+pub returns-in_ok-put_head-in-Some : goal.returns-in_ok-put_head-in-Some
+returns-in_ok-put_head-in-Some c =
+    let h = c.in-Some.head in
+    let change = change_in (step_of c.args.step.now) in
+    let front = change_number change ∷ head_bytes (h.version.now, (h.prior.now, h.name.now)) in
+    subst (λ t. OnOk c.put_change.result (c.put_change.new.out ≡ t))
+    (ap (λ t. t ++ change_bytes change) (c.in_ok-put_head-in-Some.ensures ∙ ap (λ n. c.args.out.now ++ (n ∷ head_bytes (h.version.now, (h.prior.now, h.name.now)))) c.number_of.ensures)
+    ∙ append_assoc c.args.out.now front (change_bytes change) ∙ ap (λ s. c.args.out.now ++ step_bytes s) (sym c.in-Some.ensures.entry))
+    c.put_change.ensures

@@ -8,9 +8,9 @@ pub loop-body-preserved : goal.loop-body-preserved
 loop-body-preserved c =
     let g : Geometry = record { k = c.args.g.k; unit = c.args.g.unit } in
     let left = c.next.new.self.rest.items in
-    let again : c.as_slice-in-loop-body.result.now ≡ c.as_slice.result.now = c.as_slice-in-loop-body.ensures ∙ sym c.as_slice.ensures in
+    let again : c.as_slice-in-loop-body.result.now ≡ c.as_slice.result.now = c.as_slice-in-loop-body.ensures.value ∙ sym c.as_slice.ensures.value in
     replays_on g c.loop-body.state c.do_body.new.state c.as_slice.result.now c.loop-body.body-iterator.rest.items left c.args.bodies.items c.loop-body.at c.after_record-at.result
-    c.loop-body.invariant (c.in-Some.ensures.steps.0 ∙ ap (λ (b : List ℕ). b ∷ left) (sym c.as_slice.ensures)) c.in-Ok.ensures.ok
+    c.loop-body.invariant (c.in-Some.ensures.steps.0 ∙ ap (λ (b : List ℕ). b ∷ left) (sym c.as_slice.ensures.value)) c.in-Ok.ensures.ok
     (subst (λ (b : List ℕ). c.after_record-at.result ≡ min (c.loop-body.at + (5 + length b)) (2 ^ 64 - 1)) again c.after_record-at.ensures)
 
 pub loop-body-init : goal.loop-body-init
@@ -27,7 +27,7 @@ returns-in-Err-Misfit-clause-bad c at e =
     let same : c.loop-body.at ≡ at = cc in
     subst (λ x. IsBadAmong g c.args.bodies.items x) same
     (bad_among g c.loop-body.state c.as_slice.result.now c.loop-body.body-iterator.rest.items left c.args.bodies.items c.loop-body.at
-    c.loop-body.invariant (c.in-Some.ensures.steps.0 ∙ ap (λ (b : List ℕ). b ∷ left) (sym c.as_slice.ensures)) (c.in-Err-Misfit.ensures.bad (ap Err c.in-Err-Misfit.field-0-is)))
+    c.loop-body.invariant (c.in-Some.ensures.steps.0 ∙ ap (λ (b : List ℕ). b ∷ left) (sym c.as_slice.ensures.value)) (c.in-Err-Misfit.ensures.bad (ap Err c.in-Err-Misfit.field-0-is)))
 
 pub returns-clause-ok : goal.returns-clause-ok
 returns-clause-ok c =

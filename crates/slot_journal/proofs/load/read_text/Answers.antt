@@ -62,3 +62,19 @@ returns-clause-value g c text told =
     let good = λ (place : ℕ) (early : place < 24). fits_there c.args.head.now there front piece enough place (c.in-None.ensures place early) in
     let is = text_read c.args.head.now there good read.1 read.0 (c.in_ok-read-in-None.ensures.value there told_piece) in
     subst (λ (l : List ℕ). IsText c.args.head.now read.1 read.0 l) (sym was.changed) is
+
+pub returns-in-Some-clause-bad_durable : goal.returns-in-Some-clause-bad_durable
+returns-in-Some-clause-bad_durable g c at is there told =
+    let clock = g.R.Rig.clock in
+    let images = g.R.Rig.images in
+    let told_sync = sym c.first_piece.ensures.kept.reads ∙ told in
+    only_stays clock images c.sync_and_measure.new.rig c.first_piece.new.rig c.args.slot 0 there (c.in_ok-len.ensures.durable there told_sync) c.first_piece.ensures.kept.any_moment
+
+pub returns-in_err-read-in-None-clause-bad_durable : goal.returns-in_err-read-in-None-clause-bad_durable
+returns-in_err-read-in-None-clause-bad_durable g c at is there told =
+    let clock = g.R.Rig.clock in
+    let images = g.R.Rig.images in
+    let told_piece = sym c.read_records.ensures.kept.reads ∙ told in
+    let told_sync = sym c.first_piece.ensures.kept.reads ∙ told_piece in
+    let first = only_stays clock images c.sync_and_measure.new.rig c.first_piece.new.rig c.args.slot 0 there (c.in_ok-len.ensures.durable there told_sync) c.first_piece.ensures.kept.any_moment in
+    only_stays clock images c.first_piece.new.rig c.read_records.new.rig c.args.slot 0 there first c.read_records.ensures.kept.any_moment

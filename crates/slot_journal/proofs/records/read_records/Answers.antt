@@ -43,7 +43,7 @@ loop-at-preserved g c =
     let body = c.in-Some.body in
     let Found = λ (o : Option (List ℕ)). IfSome o (λ b. (t : List ℕ) → g.R.Rig.reads c.loop-at.rig c.args.slot 0 ≡ Some t → IsRecordAt t c.loop-at.at b) in
     let Within = λ (o : Option (List ℕ)). IfSome o (λ b. c.loop-at.at + (5 + length b) ≤ c.args.len) in
-    let size = ap length c.as_slice.ensures in
+    let size = ap length c.as_slice.ensures.value in
     let within = subst Within c.in-Some.is c.in_ok-next_record.ensures.within in
     record {
       above = omega (arith, c.in_ok-next_record.ensures.start);

@@ -1,4 +1,4 @@
-use Rattle.std.proofs.Common.{rules, ◌≡◌, ◌+◌, ◌<◌, ◌++◌, ◌∷◌, [], ℕ, List, arith, ap, sym, subst, ◌∙◌}
+use Rattle.std.proofs.Common.{rules, inr, refl, ◌≡◌, ◌+◌, ◌<◌, ◌++◌, ◌∷◌, [], ℕ, List, arith, ap, sym, subst, ◌∙◌}
 use Rattle.ec_words.specs.Intervals.{Interval}
 use Rattle.rig_disk.specs.During.{During}
 use Rattle.slot_journal.specs.Journal.{InSlot}
@@ -68,3 +68,6 @@ invariant_of-self-in-Ok-clause-sound g c =
     subst (λ (ivs : List Interval). IsSound story.n (record { intervals = ivs; marks = story.marked.0 }))
     (ap (λ e. story.intervals ++ begun e c.args.up.0 ∷ []) (ap (λ e. e + 1) (sym last)) ∙ sym c.in_ok-push.ensures.ok)
     (step_sound story.n (meant story) (Begin (last_epoch story.intervals + 1) c.args.up.0) c.args.self.now.sound (begin_fits story.n (meant story) c.args.up.0 below c.requires.below))
+
+pub returns-then-is_worn-clause-refused : goal.returns-then-is_worn-clause-refused
+returns-then-is_worn-clause-refused g c = inr (record { rig = refl; journal = refl; began = refl })

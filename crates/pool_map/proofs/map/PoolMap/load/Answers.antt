@@ -1,4 +1,5 @@
 use Rattle.std.proofs.Common.{rules, ℕ, List, ap, sym, subst, ◌∙◌, Err}
+use Rattle.slot_journal.specs.InUse.{text_in_use}
 use Rattle.slot_journal.specs.Journal.{Holds, gate_of}
 use Rattle.pool_map.specs.Maps.{map_head, IsMapOf}
 use Rattle.pool_map.specs.Meanings.{image_of}
@@ -44,3 +45,11 @@ pub invariant_of-map-clause-sound : goal.invariant_of-map-clause-sound
 invariant_of-map-clause-sound g c =
     let numbers = c.in_ok-text.text.numbers in
     map_sound numbers.k numbers.unit c.as_slice.result.now (image_of c.in_ok-story.opened.profile c.in_ok-story.story) c.in_ok-story.ensures.ok
+
+pub returns-in_err-text-clause-bad_durable : goal.returns-in_err-text-clause-bad_durable
+returns-in_err-text-clause-bad_durable g c = λ e.
+    c.in_err-text.ensures.bad_durable (ap Err (err_by c.from_residual.result c.in_err-text.field-0.0 BadMap c.from_residual.ensures.1 e))
+
+pub returns-in_err-story-clause-bad_durable : goal.returns-in_err-story-clause-bad_durable
+returns-in_err-story-clause-bad_durable g c = λ e text told image said now.
+    ap (λ s. text_in_use s (image s)) (sym c.in_ok-text.ensures.fresh.slot_is) ∙ (c.in_ok-text.ensures.ok text told).durable image said now

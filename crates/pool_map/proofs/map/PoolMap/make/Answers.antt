@@ -1,7 +1,7 @@
 use Rattle.std.proofs.Common.{rules, ◌∷◌, [], ℕ, List, Some, ap, sym, subst, ◌∙◌}
 use Rattle.ec_model.specs.Versions.{zero_version}
 use Rattle.ec_words.specs.Intervals.{Interval}
-use Rattle.shard_model.specs.StepBytes.{IsWord}
+use Rattle.ec_words.specs.Readers.{IsWord}
 use Rattle.pool_map.specs.Maps.{IsMapOf}
 use Rattle.pool_map.specs.Pool.{new_map}
 use Rattle.pool_map.specs.Sound.{IsSound}
@@ -15,7 +15,7 @@ returns-in_err-journal-clause-any_moment g c =
     let word : IsWord first.profile.stripe_unit = search rules in
     make_moments g.R.Rig.clock g.R.Rig.images (g.R.Rig.reads c.args.rig.now 16) c.args.rig.now c.make.new.rig c.args.profile.now first.profile c.args.shape.k c.args.shape.n first.profile.stripe_unit
     c.map_head-head.result c.as_slice.result.now word c.map_head-head.ensures c.in_ok-first.ensures.new
-    (subst (λ b. IsMapOf c.args.shape.k first.profile.stripe_unit (b ∷ []) (new_map first.profile c.args.shape.n)) (sym c.as_slice.ensures) c.in_ok-first.ensures.ok)
+    (subst (λ b. IsMapOf c.args.shape.k first.profile.stripe_unit (b ∷ []) (new_map first.profile c.args.shape.n)) (sym c.as_slice.ensures.value) c.in_ok-first.ensures.ok)
     c.make.ensures.any_moment
 
 pub returns-clause-any_moment : goal.returns-clause-any_moment
@@ -24,7 +24,7 @@ returns-clause-any_moment g c =
     let word : IsWord first.profile.stripe_unit = search rules in
     make_moments g.R.Rig.clock g.R.Rig.images (g.R.Rig.reads c.args.rig.now 16) c.args.rig.now c.make.new.rig c.args.profile.now first.profile c.args.shape.k c.args.shape.n first.profile.stripe_unit
     c.map_head-head.result c.as_slice.result.now word c.map_head-head.ensures c.in_ok-first.ensures.new
-    (subst (λ b. IsMapOf c.args.shape.k first.profile.stripe_unit (b ∷ []) (new_map first.profile c.args.shape.n)) (sym c.as_slice.ensures) c.in_ok-first.ensures.ok)
+    (subst (λ b. IsMapOf c.args.shape.k first.profile.stripe_unit (b ∷ []) (new_map first.profile c.args.shape.n)) (sym c.as_slice.ensures.value) c.in_ok-first.ensures.ok)
     c.make.ensures.any_moment
 
 pub invariant_of-result-2-clause-sound : goal.invariant_of-result-2-clause-sound

@@ -1,4 +1,4 @@
-use Rattle.std.proofs.Common.{rules, ◌≡◌, ℕ, List, if◌then◌else◌, ap, sym, subst, ◌∙◌}
+use Rattle.std.proofs.Common.{rules, inr, refl, ◌≡◌, ℕ, List, if◌then◌else◌, ap, sym, subst, ◌∙◌}
 use Rattle.rig_disk.specs.During.{During}
 use Rattle.slot_journal.specs.Journal.{InSlot}
 use Rattle.pool_map.specs.Meanings.{meant}
@@ -56,3 +56,6 @@ invariant_of-self-3-clause-sound g c =
     subst (λ (x : ℕ). IsSound story.n (record { intervals = story.intervals; marks = x }))
     (ap (λ d. with_mark c.args.slot d story.marked.0) (sym c.down_byte-byte.ensures) ∙ sym c.with_mark-self.ensures)
     (step_sound story.n (meant story) (Mark c.args.slot (if c.args.down then 1 else 0)) c.args.self.now.sound (mark_fits story.n (meant story) c.args.slot c.args.down c.requires.slot))
+
+pub returns-then-room-lt-MARK_ROOM-clause-refused : goal.returns-then-room-lt-MARK_ROOM-clause-refused
+returns-then-room-lt-MARK_ROOM-clause-refused g c = inr (record { rig = refl; journal = refl; began = refl })

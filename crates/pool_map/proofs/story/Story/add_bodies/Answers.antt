@@ -9,6 +9,6 @@ loop-i-preserved c = (
   c.add_body.ensures.n ∙ c.loop-i.invariant.0,
   all_on c.args.self.now.n (meant c.args.self.now) c.args.bodies.now (meant c.loop-i.self) (meant c.add_body.new.self) c.as_slice.result.now
       (drop c.loop-i.i c.args.bodies.now) (drop (c.loop-i.i + 1) c.args.bodies.now) c.loop-i.invariant.1
-      (drop_more c.args.bodies.now c.loop-i.i c.index-bodies-i.result (search rules) ∙ ap (λ b. b ∷ drop (c.loop-i.i + 1) c.args.bodies.now) (sym c.index-bodies-i.is ∙ sym c.as_slice.ensures))
+      (drop_more c.args.bodies.now c.loop-i.i c.index-bodies-i.result (search rules) ∙ ap (λ b. b ∷ drop (c.loop-i.i + 1) c.args.bodies.now) (sym c.index-bodies-i.is ∙ sym c.as_slice.ensures.value))
       (rw (← c.loop-i.invariant.0) c.in_ok-add_body.ensures.ok) (rw (← c.loop-i.invariant.0) c.in_ok-add_body.ensures.only),
 )

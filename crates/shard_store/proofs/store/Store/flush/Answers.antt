@@ -1,9 +1,10 @@
-use Rattle.std.proofs.Common.{rules, ◌≡◌, ◌≤◌, ◌∙◌, ◌∷◌, ◌++◌, [], length, sym, ap, subst, arith}
-use Rattle.slot_journal.specs.Journal.{slot_of, Holds}
+use Rattle.std.proofs.Common.{rules, refl, ◌≡◌, ◌≤◌, ◌∙◌, ◌∷◌, ◌++◌, [], length, sym, ap, subst, arith}
+use Rattle.slot_journal.specs.Journal.{slot_of, gate_of, area_of, Holds}
+use Rattle.slot_journal.proofs.CallerLemmas.{other_slots}
 use Rattle.shard_store.specs.Stories.{AreSpelled, shard_head}
-use Rattle.shard_store.specs.Stored.{head_in}
+use Rattle.shard_store.specs.Stored.{head_in, gate_behind}
 use Rattle.shard_store.specs.Told.{Told, IsTold, unflushed_bytes}
-use Rattle.shard_store.proofs.StoreLemmas.{some_length, pending_alone, body_more, told_flushed, nothing_more, flush_moments, rests}
+use Rattle.shard_store.proofs.StoreLemmas.{some_length, gate_moved, pending_alone, body_more, told_flushed, nothing_more, flush_moments, rests}
 use Rattle.shard_store.proofs.store.Store.flush.Goals as goal
 
 pub commit-requires-clause-some : goal.commit-requires-clause-some
@@ -61,3 +62,48 @@ returns-then-is_flushed-clause-ok g c text flushed pending stored =
 
 pub returns-then-is_flushed-clause-any_moment : goal.returns-then-is_flushed-clause-any_moment
 returns-then-is_flushed-clause-any_moment g c = rests g.R.Rig.clock g.R.Rig.images c.args.rig.now (g.R.Rig.reads c.args.rig.now) c.args.self.now
+
+pub returns-in-Ok-clause-kept : goal.returns-in-Ok-clause-kept
+returns-in-Ok-clause-kept g c =
+    other_slots g.R.Rig.is_here g.R.Rig.reads g.R.Rig.said g.R.Rig.faults g.R.Rig.syncs g.R.Rig.bytes_written g.R.Rig.bytes_read (slot_of c.args.self.now.journal) (area_of c.args.self.now.journal) c.args.rig.now c.commit.new.rig c.commit.ensures.kept
+
+pub returns-in-Err-Failed-clause-kept : goal.returns-in-Err-Failed-clause-kept
+returns-in-Err-Failed-clause-kept g c =
+    other_slots g.R.Rig.is_here g.R.Rig.reads g.R.Rig.said g.R.Rig.faults g.R.Rig.syncs g.R.Rig.bytes_written g.R.Rig.bytes_read (slot_of c.args.self.now.journal) (area_of c.args.self.now.journal) c.args.rig.now c.commit.new.rig c.commit.ensures.kept
+
+pub returns-in-Err-Spent-clause-kept : goal.returns-in-Err-Spent-clause-kept
+returns-in-Err-Spent-clause-kept g c =
+    other_slots g.R.Rig.is_here g.R.Rig.reads g.R.Rig.said g.R.Rig.faults g.R.Rig.syncs g.R.Rig.bytes_written g.R.Rig.bytes_read (slot_of c.args.self.now.journal) (area_of c.args.self.now.journal) c.args.rig.now c.commit.new.rig c.commit.ensures.kept
+
+pub returns-in-Ok-clause-after : goal.returns-in-Ok-clause-after
+returns-in-Ok-clause-after g c =
+    let t = c.args.self.now.story in
+    let some : t.pending ≡ [] → ⊥ = search rules in
+    record {
+      slot_is = c.commit.ensures.after.slot_is;
+      area_is = c.commit.ensures.after.area_is;
+      n = refl;
+      flushed = c.flushed.ensures;
+      gate_is = gate_moved (gate_of c.args.self.now.journal) (gate_of c.commit.new.self) c.body.result.now t.pending some
+          (c.body.ensures ∙ pending_alone t c.requires.accepted) c.in-Ok.ensures.after.gate_is;
+      unspent = λ free. c.in-Ok.ensures.after.unspent;
+      kept = tt;
+      same_gate = tt;
+      spent = tt;
+    }
+
+pub returns-then-is_flushed-clause-after : goal.returns-then-is_flushed-clause-after
+returns-then-is_flushed-clause-after g c =
+    let t = c.args.self.now.story in
+    let empty : t.pending ≡ [] = search rules in
+    record {
+      slot_is = refl;
+      area_is = refl;
+      n = refl;
+      flushed = search rules;
+      gate_is = sym (ap (λ l. gate_behind (gate_of c.args.self.now.journal) l) empty);
+      unspent = λ free. free;
+      kept = tt;
+      same_gate = tt;
+      spent = tt;
+    }

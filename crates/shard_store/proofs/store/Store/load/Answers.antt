@@ -1,6 +1,8 @@
 use Rattle.std.proofs.Common.{rules, ◌∙◌, inl, inr, sym, ap, subst}
 use Rattle.shard_model.specs.Objects.{Geometry}
+use Rattle.slot_journal.proofs.CallerLemmas.{only_reads}
 use Rattle.slot_journal.specs.Text.{IsBadText}
+use Rattle.slot_journal.specs.InUse.{text_in_use}
 use Rattle.slot_journal.specs.Journal.{slot_of, gate_of, Holds}
 use Rattle.shard_store.specs.Stories.{shard_head, IsBadAmong}
 use Rattle.shard_store.proofs.MakeLemmas.{loaded, bad_story}
@@ -26,3 +28,27 @@ pub returns-in-Err-BadSlot-clause-bad_slot : goal.returns-in-Err-BadSlot-clause-
 returns-in-Err-BadSlot-clause-bad_slot g c at e text told =
     let geometry : Geometry = record { k = c.args.g.k; unit = c.args.g.unit } in
     inl (subst (λ h. IsBadText h text at) c.shard_head.ensures (c.in-Err-BadSlot.ensures.bad_slot at (search rules) text told))
+
+pub returns-in_err-state-in-Ok-clause-bad_durable : goal.returns-in_err-state-in-Ok-clause-bad_durable
+returns-in_err-state-in-Ok-clause-bad_durable g c at e text told image said now =
+    let holds = c.in-Ok.ensures.ok text told in
+    ap (λ s. text_in_use s (image s)) (sym c.in-Ok.ensures.fresh.slot_is) ∙ holds.durable image said now
+
+pub returns-in-Err-BadSlot-clause-bad_durable : goal.returns-in-Err-BadSlot-clause-bad_durable
+returns-in-Err-BadSlot-clause-bad_durable g c at e text told =
+    c.in-Err-BadSlot.ensures.bad_durable at (search rules) text told
+
+pub returns-in_ok-state-in-Ok-clause-kept : goal.returns-in_ok-state-in-Ok-clause-kept
+returns-in_ok-state-in-Ok-clause-kept g c = only_reads g.R.Rig.is_here g.R.Rig.reads g.R.Rig.said g.R.Rig.clock g.R.Rig.images g.R.Rig.faults g.R.Rig.syncs g.R.Rig.bytes_written g.R.Rig.bytes_read c.args.slot 0 1 c.args.rig.now c.load.new.rig c.load.ensures.kept
+
+pub returns-in_err-state-in-Ok-clause-kept : goal.returns-in_err-state-in-Ok-clause-kept
+returns-in_err-state-in-Ok-clause-kept g c = only_reads g.R.Rig.is_here g.R.Rig.reads g.R.Rig.said g.R.Rig.clock g.R.Rig.images g.R.Rig.faults g.R.Rig.syncs g.R.Rig.bytes_written g.R.Rig.bytes_read c.args.slot 0 1 c.args.rig.now c.load.new.rig c.load.ensures.kept
+
+pub returns-in-Err-BadSlot-clause-kept : goal.returns-in-Err-BadSlot-clause-kept
+returns-in-Err-BadSlot-clause-kept g c = only_reads g.R.Rig.is_here g.R.Rig.reads g.R.Rig.said g.R.Rig.clock g.R.Rig.images g.R.Rig.faults g.R.Rig.syncs g.R.Rig.bytes_written g.R.Rig.bytes_read c.args.slot 0 1 c.args.rig.now c.load.new.rig c.load.ensures.kept
+
+pub returns-in-Err-Failed-clause-kept : goal.returns-in-Err-Failed-clause-kept
+returns-in-Err-Failed-clause-kept g c = only_reads g.R.Rig.is_here g.R.Rig.reads g.R.Rig.said g.R.Rig.clock g.R.Rig.images g.R.Rig.faults g.R.Rig.syncs g.R.Rig.bytes_written g.R.Rig.bytes_read c.args.slot 0 1 c.args.rig.now c.load.new.rig c.load.ensures.kept
+
+pub returns-in-Err-NoMemory-clause-kept : goal.returns-in-Err-NoMemory-clause-kept
+returns-in-Err-NoMemory-clause-kept g c = only_reads g.R.Rig.is_here g.R.Rig.reads g.R.Rig.said g.R.Rig.clock g.R.Rig.images g.R.Rig.faults g.R.Rig.syncs g.R.Rig.bytes_written g.R.Rig.bytes_read c.args.slot 0 1 c.args.rig.now c.load.new.rig c.load.ensures.kept

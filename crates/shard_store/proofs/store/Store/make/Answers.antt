@@ -1,4 +1,5 @@
 use Rattle.shard_model.specs.Objects.{Geometry}
+use Rattle.slot_journal.proofs.CallerLemmas.{other_slots}
 use Rattle.slot_journal.specs.Writing.{first_text}
 use Rattle.shard_store.specs.Stories.{shard_head}
 use Rattle.shard_store.proofs.MakeLemmas.{made, make_moments}
@@ -24,3 +25,9 @@ returns-in-Err-Failed-clause-any_moment g c =
     let geometry : Geometry = record { k = c.args.g.k; unit = c.args.g.unit } in
     make_moments geometry c.args.partial c.in-Ok.story c.in-Ok.ensures c.shard_head.result c.body.result.now c.body.ensures
     g.R.Rig.clock g.R.Rig.images c.args.rig.now c.make.new.rig (g.R.Rig.reads c.args.rig.now c.args.slot) c.args.slot (shard_head c.args.slot geometry c.args.n) c.shard_head.ensures c.make.ensures.any_moment
+
+pub returns-in-Ok-make-clause-kept : goal.returns-in-Ok-make-clause-kept
+returns-in-Ok-make-clause-kept g c = other_slots g.R.Rig.is_here g.R.Rig.reads g.R.Rig.said g.R.Rig.faults g.R.Rig.syncs g.R.Rig.bytes_written g.R.Rig.bytes_read c.args.slot 0 c.args.rig.now c.make.new.rig c.make.ensures.kept
+
+pub returns-in-Err-Failed-clause-kept : goal.returns-in-Err-Failed-clause-kept
+returns-in-Err-Failed-clause-kept g c = other_slots g.R.Rig.is_here g.R.Rig.reads g.R.Rig.said g.R.Rig.faults g.R.Rig.syncs g.R.Rig.bytes_written g.R.Rig.bytes_read c.args.slot 0 c.args.rig.now c.make.new.rig c.make.ensures.kept

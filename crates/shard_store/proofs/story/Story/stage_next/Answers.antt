@@ -33,7 +33,7 @@ invariant_of-self-2 c =
     let next : c.apply-done.new.self ≡ shard_after s.state (olds ++ step ∷ []) =
     c.in-Ok.ensures.ok ∙ ap (λ (t : Shard). stepped t step) level ∙ sym (after_one s.state olds step) in
     let none : map step_of c.clear.new.self.items ≡ [] = ap (map step_of) c.clear.ensures.items in
-    let bytes : c.as_slice-2.result.now ≡ step_bytes step = c.as_slice-2.ensures ∙ c.in_ok-copy.ensures.bytes in
+    let bytes : c.as_slice-2.result.now ≡ step_bytes step = c.as_slice-2.ensures.value ∙ c.in_ok-copy.ensures.bytes in
     let all : c.extend_from_slice.new.self.items ≡ s.body.items ++ c.as_slice-2.result.now =
     c.in-Ok-extend_from_slice.ensures.items ∙ ap (λ l. l ++ c.as_slice-2.result.now) c.in_ok-reserve-2.ensures.items in
     let front : take s.body_len c.extend_from_slice.new.self.items ≡ take s.body_len s.body.items =

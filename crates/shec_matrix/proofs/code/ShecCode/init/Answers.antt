@@ -1,7 +1,8 @@
 use Rattle.std.proofs.Common.{◌+◌, arith}
 use Rattle.ec_code.proofs.ShecLemmas.{shec_by_name, shec_code_by, shec_promise_by}
 use Rattle.rs_van.specs.Systematic.{systematic}
-use Rattle.shec_matrix.proofs.ShecRowLemmas.{code_of_rows, shec_of}
+use Rattle.rs_van.proofs.SystematicLemmas.{code_of_rows}
+use Rattle.shec_matrix.proofs.ShecRowLemmas.{shec_of}
 use Rattle.shec_matrix.proofs.code.ShecCode.init.Goals as goal
 
 pub invariant_of-self : goal.invariant_of-self

@@ -1,5 +1,5 @@
 use Rattle.std.proofs.Common.{sym}
-use Rattle.shec_matrix.proofs.ShecRowLemmas.{place_at}
+use Rattle.rs_van.proofs.SystematicLemmas.{place_at}
 use Rattle.shec_matrix.proofs.code.ShecCode.place.Goals as goal
 
 pub returns-clause-value : goal.returns-clause-value

@@ -1,7 +1,8 @@
-use Rattle.std.proofs.Common.{ℕ, List, Some, ◌∙◌, sym, ap}
+use Rattle.std.proofs.Common.{ℕ, List, Some, ◌∙◌, sym, ap, IsErrOf, refl, rules}
 use Rattle.rig_disk.specs.Disk.{on_told}
 use Rattle.rig_disk.proofs.Areas.{was_told}
-use Rattle.slot_journal.specs.InUse.{open_text}
+use Rattle.slot_journal.specs.InUse.{open_text, first_told}
+use Rattle.slot_journal.specs.declared.fault.JournalFault.TheVariants.{BadSlot}
 use Rattle.slot_journal.proofs.journal.Journal.load.Goals as goal
 
 pub returns-clause-ok : goal.returns-clause-ok
@@ -10,7 +11,9 @@ returns-clause-ok g c text told =
     let told_then = c.read_text.ensures.kept.reads ∙ was.told in
     record {
       told = ap (on_told open_text) told_then ∙ ap (λ (l : List ℕ). Some l) (sym was.changed);
+      told_in = ap first_told told_then;
       is_text = c.in_ok-gate.ensures.value text told;
+      durable_in = λ image said now. refl;
       durable = λ image said now. ap open_text (c.in_ok-gate.ensures.durable was.there told_then image said now) ∙ sym was.changed;
     }
 
@@ -22,3 +25,10 @@ returns-clause-settled g c text told =
       bodies = c.in_ok-gate.bodies;
       holds = returns-clause-ok g c text before;
     }
+
+pub returns-in_err-gate-clause-bad_durable : goal.returns-in_err-gate-clause-bad_durable
+returns-in_err-gate-clause-bad_durable g c at is text told image said now =
+    let was = was_told (g.R.Rig.reads c.args.rig.now c.args.slot 0) open_text text told in
+    let told_then = c.read_text.ensures.kept.reads ∙ was.told in
+    let bad : IsErrOf c.read_text.result (BadSlot at) = search rules in
+    ap open_text (c.read_text.ensures.bad_durable at bad was.there told_then image said now) ∙ sym was.changed

@@ -34,7 +34,7 @@ returns-in_err-shut-clause-any_moment g c =
     let S = λ (a b : List ℕ). Was → IsSameOrVoid a b in
     let U = λ (a b : List ℕ). Was → IsSameOrVoid a b ⊎ IsVoidOrFirst head body b in
     let first_images = images rig (clock rig) in
-    let P = InSlot first_images slot (Makes (g.R.Rig.reads rig slot) head body) in
+    let P = InSlot first_images slot (Makes slot (g.R.Rig.reads rig slot) head body) in
     let leads = makes first_images slot (g.R.Rig.reads rig slot) head body in
     weaker clock images rig c.shut.new.rig (From first_images slot 0 U) P (step_weaker clock images slot 0 rig c.shut.new.rig S U (λ a b s was. inl (s was)) c.shut.ensures.any_moment) leads
 
@@ -50,7 +50,7 @@ returns-in_err-write_first-clause-any_moment g c =
     let S = λ (a b : List ℕ). Was → IsSameOrVoid a b in
     let U = λ (a b : List ℕ). Was → IsSameOrVoid a b ⊎ IsVoidOrFirst head body b in
     let first_images = images rig (clock rig) in
-    let P = InSlot first_images slot (Makes (g.R.Rig.reads rig slot) head body) in
+    let P = InSlot first_images slot (Makes slot (g.R.Rig.reads rig slot) head body) in
     let leads = makes first_images slot (g.R.Rig.reads rig slot) head body in
     let T = λ (a b : List ℕ). ReadsBytes (g.R.Rig.reads c.shut.new.rig slot 0) → IsVoidOrFirst head body b in
     let run = steps_on clock images rig c.shut.new.rig c.write_first.new.rig slot 0 S T U c.shut.ensures.any_moment c.write_first.ensures.any_moment
@@ -69,7 +69,7 @@ returns-clause-any_moment g c =
     let S = λ (a b : List ℕ). Was → IsSameOrVoid a b in
     let U = λ (a b : List ℕ). Was → IsSameOrVoid a b ⊎ IsVoidOrFirst head body b in
     let first_images = images rig (clock rig) in
-    let P = InSlot first_images slot (Makes (g.R.Rig.reads rig slot) head body) in
+    let P = InSlot first_images slot (Makes slot (g.R.Rig.reads rig slot) head body) in
     let leads = makes first_images slot (g.R.Rig.reads rig slot) head body in
     let T = λ (a b : List ℕ). ReadsBytes (g.R.Rig.reads c.shut.new.rig slot 0) → IsVoidOrFirst head body b in
     let run = steps_on clock images rig c.shut.new.rig c.write_first.new.rig slot 0 S T U c.shut.ensures.any_moment c.write_first.ensures.any_moment

@@ -1,6 +1,0 @@
-use Rattle.std.proofs.Common.{◌≡◌, take}
-use Rattle.plugin_reg.specs.SettingTexts.{shown, shown_members}
-use Rattle.plugin_reg.proofs.json.settings.Given as goal
-
-abbrev pub invariant-loop-member : goal.invariant-loop-member
-invariant-loop-member l = shown l.list.items ≡ shown_members (take l.member-index l.members)

@@ -1,0 +1,8 @@
+use Rattle.pool_map.proofs.PositionLemmas.{inside_by, marks_by}
+use Rattle.pool_map.proofs.laws.masks_are_by_positions.Goals as goal
+
+pub returns-clause-inside : goal.returns-clause-inside
+returns-clause-inside c = inside_by
+
+pub returns-clause-marks : goal.returns-clause-marks
+returns-clause-marks c = marks_by

@@ -1,4 +1,0 @@
-use Rattle.worked_examples.proofs.run.answered.Goals as goal
-
-pub ecpool-requires : goal.ecpool-requires
-ecpool-requires c = rw (← c.deref.ensures.value) (c.has_each_plugin.ensures.0 c.if-not-has_each_plugin.false)

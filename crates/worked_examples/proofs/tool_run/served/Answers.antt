@@ -1,4 +1,0 @@
-use Rattle.worked_examples.proofs.tool_run.served.Goals as goal
-
-pub tool-requires : goal.tool-requires
-tool-requires c = rw (← c.deref.ensures.value) (c.has_each_plugin.ensures.0 c.if-not-has_each_plugin.false)
