@@ -1,5 +1,6 @@
 //! The answer to a line: `settings TEXT`, `json TEXT` and `any TEXT` say how a text is read, with `%XX` for a byte that a line
 //! can't have; `boxes` asks for the shapes of the boxes, and a heading, which begins with `#`, is said as it is.
+ghost use Rattle.std.specs.Prelude.{◌<◌, length, slice_index_or};
 ghost use Rattle.ec_code.specs.Refusals.{IsAccepted, IsCodeOf};
 
 use ec_code::{Code, Profile, ProfileFault};
@@ -54,9 +55,23 @@ pub fn lines_of(alloc: Global, profile: &Profile) -> Result<Bytes, NoMemory> {
     boxes.push(Box::new(alloc, Shec::new())?)?;
     boxes.push(Box::new(alloc, Lrc::new())?)?;
     match pick(&mut boxes, profile) {
-        Ok(i) => lines_by(alloc, profile, &*boxes[i]),
+        Ok(i) => lines_in(alloc, profile, &boxes, i),
         Err(fault) => print_fault(alloc, &fault),
     }
+}
+
+/// The canonical lines of a profile whose code is a box of these.
+fn lines_in(
+    alloc: Global,
+    profile: &Profile,
+    boxes: &[Box<dyn Code>],
+    i: usize,
+) -> Result<Bytes, NoMemory>
+    requires accepted { IsAccepted profile.now }
+    requires below { i < length boxes.now }
+    requires made { (d : _) → IsCodeOf profile.now (meaning (slice_index_or boxes.now i d)) }
+{
+    lines_by(alloc, profile, boxes[i].as_ref())
 }
 
 /// The canonical lines of a profile, whose code this is.
