@@ -1,7 +1,7 @@
 #!/usr/bin/env bash
-# A text is encoded as six chunks of which any four are enough. Two are lost, and it comes back; with three lost it does not.
-# Its word is the path of ceph_ec_tool; without one the program of this checkout is taken, or else the installed one. What is
-# said is compared with lost-chunks.output beside this script, and the status is 1 where it is something else.
+# A text is encoded as six chunks of which any four are enough. Two are lost, and the text comes back. With three lost it does
+# not. The script's word is the path of ceph_ec_tool; without one it takes the program of this checkout, or else the installed
+# one. It compares what is said with lost-chunks.output beside it, and ends with status 1 if they differ.
 set -euo pipefail
 here=$(cd "$(dirname "${BASH_SOURCE[0]}")" && pwd)
 built=$here/../crates/ceph_ec_tool/out/ceph_ec_tool

@@ -1,5 +1,5 @@
-/* Reads files whole into memory, one after another, and then writes files, which is the work with files that coding chunks
-   takes: what coding itself costs is the rest. scripts/bench compiles it.
+/* Reads files whole into memory, one after another, and then writes files. This is the work with files that coding chunks
+   takes: the rest is the cost of coding itself. scripts/bench compiles it.
 
        copy_bench SIZE NAME .. -- NAME ..
 

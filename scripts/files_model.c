@@ -1,6 +1,6 @@
-/* What `ceph_ec_tool` does at k = 4, m = 2 and a unit of 4096, in C and with ISA-L's kernels: files are read whole, and written one
-   after another, piece after piece, each of which is made in a buffer that stays in the cache. So it tells how fast this order of
-   work can be. scripts/bench compiles it where ISA-L is installed.
+/* What `ceph_ec_tool` does at k = 4, m = 2 and a unit of 4096, in C and with ISA-L's kernels. Files are read whole, and written one
+   after another, piece after piece. Each piece is made in a buffer that stays in the cache. So this program shows how fast this
+   order of work can be. scripts/bench compiles it if ISA-L is installed.
 
        files_model encode NAME
 
@@ -39,7 +39,7 @@ static unsigned char *read_whole(const char *name, size_t *size) {
     return into;
 }
 
-/* Writes the piece that was made, where it is full or the last one. */
+/* Writes the piece that was made if it is full or the last one. */
 static int put(int file, int last) {
     if (held < PIECE && !last) return 0;
     for (size_t at = 0; at < held;) {

@@ -1,5 +1,5 @@
 #!/usr/bin/env bash
-# Installs ecpool, ceph_ec_tool and their man pages, or takes them away again.
+# Installs ecpool, ceph_ec_tool and their man pages, or removes them.
 set -u
 usage() {
     cat <<'TEXT'
@@ -32,7 +32,7 @@ case "${1:-}" in
 esac
 [ $# -eq 1 ] || { usage >&2; exit 2; }
 
-# What can be looked at before a build is looked at before it.
+# Everything that can be checked before a build is checked here.
 mkdir -p "$1" || exit 1
 prefix=$(realpath "$1")
 [ -w "$prefix" ] || give_up "$prefix cannot be written to"
@@ -41,7 +41,7 @@ command -v rt >/dev/null || give_up "rt of the Rattle kit is not here"
 log=$(mktemp) || exit 1
 trap 'rm -f "$log"' EXIT
 
-# What a processor needs to have for x86-64-v3.
+# The flags that a processor needs for x86-64-v3.
 cpu=--cpu=x86-64-v3
 for flag in avx2 bmi1 bmi2 fma f16c movbe abm; do
     grep -qw "$flag" /proc/cpuinfo || cpu=
@@ -51,19 +51,19 @@ kind=${kind:-as the gate does}
 say "builds ecpool and ceph_ec_tool $kind, and installs them under $prefix"
 say "a minute where the proofs are kept on this machine, half an hour and more from nothing"
 
-# Builds a program crate by running it with some words, for the processor that is given or for the gate's. The build of one
-# processor takes the place of the other's.
+# Builds a program crate by running it with some words, for the processor that is given or for the gate's. A build for one
+# processor replaces a build for the other.
 build() {
     local crate=$1 cpu=$2
     shift 2
-    # shellcheck disable=SC2086 # no word where no processor is given
+    # shellcheck disable=SC2086 # no word if no processor is given
     (cd "crates/$crate" && rt run $cpu -- "$@" </dev/null >"$log" 2>&1) && return
     tail -n 20 "$log" >&2
     say "crates/$crate is not built" >&2
     return 1
 }
 
-# Installs a program, and puts the gate's build back also where this fails.
+# Installs a program, and puts the gate's build back even if this fails.
 program() {
     local crate=$1 status=0
     say "proving and building $crate"

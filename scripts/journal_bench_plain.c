@@ -1,7 +1,7 @@
-/* The same writes and syncs as the journal's, in a plain loop, and a plain read of a file: what scripts/bench compares
- * crates/journal_bench with. `commit FILE COUNT` prints the time of COUNT commits of 4 KiB, `fill FILE MIB` writes a text of
- * records of 4 KiB up to MIB mebibytes, and `read FILE` prints the time of reading it
- * whole into memory. docs/FORMAT.md has the bytes. */
+/* The same writes and syncs as the journal's, in a plain loop, and a plain read of a file. scripts/bench compares
+ * crates/journal_bench with this program. `commit FILE COUNT` prints the time of COUNT commits of 4 KiB, `fill FILE MIB` writes a
+ * text of records of 4 KiB up to MIB mebibytes, and `read FILE` prints the time of reading it whole into memory. docs/FORMAT.md has
+ * the bytes. */
 #include <fcntl.h>
 #include <stdio.h>
 #include <stdlib.h>

@@ -1,9 +1,9 @@
-/* Runs a program and tells what it took. scripts/bench compiles it.
+/* Runs a program and says what it took. scripts/bench compiles it.
 
        measured_run PROGRAM WORD ..
 
    says "WALL PROCESSOR MEMORY" of this one run as the last line on standard error, and ends as the program does. Both times are
-   in microseconds, the second one that of user and system together; the memory is the largest resident one, in KiB. */
+   in microseconds, and the second one is that of user and system together. The memory is the largest resident one, in KiB. */
 #include <stdio.h>
 #include <sys/resource.h>
 #include <sys/wait.h>

@@ -1,8 +1,8 @@
-/* A text of a shard's records, and a plain walk of it: what scripts/bench compares the load of crates/store_bench with.
+/* A text of a shard's records, and a plain walk of it. scripts/bench compares the load of crates/store_bench with this program.
  * `fill FILE COUNT` writes the text of slot 0 in a code of one data position and two in all, with a unit of 4 KiB: epoch 1 is
  * started, and then each of COUNT objects is given 4 KiB in a record of its own. `walk FILE` reads the file whole, goes through its
- * records and steps, and keeps each object's bytes in memory of their own by name, as a hash table; `skim FILE` keeps nothing.
- * Both print the time that they took. docs/FORMAT.md has the bytes. */
+ * records and steps, and keeps each object's bytes in a hash table by name, each in memory of its own. `skim FILE` does the same and
+ * keeps nothing. Both print the time that they took. docs/FORMAT.md has the bytes. */
 #include <fcntl.h>
 #include <stdio.h>
 #include <stdlib.h>
@@ -83,7 +83,7 @@ static void keep(const unsigned char *name, unsigned name_len, const unsigned ch
     table[at].bytes = copy(bytes, len), table[at].len = len;
 }
 
-/* How many objects the steps of a record give; -1 where a step is not as it should be. */
+/* How many objects the steps of a record give; -1 if a step is not as it should be. */
 static long steps(const unsigned char *at, const unsigned char *end, unsigned long *head, int keeps) {
     long objects = 0;
     while (at < end) {

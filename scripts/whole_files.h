@@ -1,4 +1,4 @@
-/* What the programs in C do with files, which are written whole. */
+/* What the programs in C do with files. Files are written whole. */
 #include <fcntl.h>
 #include <stdio.h>
 #include <unistd.h>
@@ -8,7 +8,7 @@ static inline int fail(const char *name) {
     return 1;
 }
 
-/* Makes these the bytes of a file; 1 and a line on standard error where that fails. */
+/* Makes these the bytes of a file; 1 and a line on standard error if that fails. */
 static inline int write_whole(const char *name, const void *bytes, size_t size) {
     const char *from = bytes;
     int file = open(name, O_WRONLY | O_CREAT | O_TRUNC, 0666);
