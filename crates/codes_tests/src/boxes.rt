@@ -1,4 +1,4 @@
-//! Profiles that no text gives, and boxes that are not there. What texts give is shown by the program `profile_rows`.
+//! Profiles that no text gives, and boxes that are not there. The program `profile_rows` shows what texts give.
 use ec_code::{Code, Plugin, Profile, ProfileFault};
 use lrc_layers::Lrc;
 use plugin_reg::{pick, print_profile};
@@ -34,7 +34,7 @@ fn is_printed(alloc: Global, boxes: &mut [Box<dyn Code>], profile: &Profile, lin
     }
 }
 
-/// Whether a profile of a plugin is refused since no box goes by its name.
+/// Whether a profile of a plugin is refused because no box has its name.
 fn is_unknown(boxes: &mut [Box<dyn Code>], plugin: Plugin) -> bool {
     pick(boxes, &profile(plugin, Some(4), None)) == Err(ProfileFault::UnknownPlugin)
 }
@@ -44,7 +44,7 @@ const MADE: &str = "k=2\nl=4\nm=2\nmin_size=2\nplugin=lrc\nstripe_unit=32\n";
 const PLAIN: &str =
     "k=2\nm=2\nmin_size=2\nplugin=jerasure\nstripe_unit=32\ntechnique=reed_sol_van\nw=8\n";
 
-// The plugin lrc has no w, so that of a profile does not count; those of jerasure that are left out are printed.
+// The plugin lrc has no w, so the w of a profile does not count. Settings of jerasure that are left out are printed.
 #[test]
 fn a_profile_that_no_text_gives_has_its_lines(rt: HostRuntime) -> Result<(), Fail> {
     let alloc = rt.alloc();

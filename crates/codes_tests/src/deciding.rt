@@ -42,7 +42,7 @@ fn zeros(rows: &[[u8; 4]], column: [u8; 4]) -> u8 {
     mask
 }
 
-/// A column of four bytes, of which `hole` is 0.
+/// A column of four bytes; byte `hole` is 0.
 fn spread(bytes: [u8; 4], hole: u8) -> [u8; 4] {
     let [a, b, c, _] = bytes;
     match hole {
@@ -53,8 +53,8 @@ fn spread(bytes: [u8; 4], hole: u8) -> [u8; 4] {
     }
 }
 
-/// Marks the zeros of each column whose byte `hole` is 0, and of whose other bytes the last that isn't 0 is number `last`
-/// and 1.
+/// Marks the zeros of each column with these two properties: byte `hole` is 0, and byte `last` is 1 and the last other byte that
+/// is not 0.
 fn mark(rows: &[[u8; 4]], last: u32, hole: u8, seen: &mut [bool; 256]) {
     let one = 1u32 << (8 * u32::min(last, 2));
     for rest in 0..one {
@@ -69,9 +69,9 @@ fn mark_all(rows: &[[u8; 4]], k: u8, hole: u8, seen: &mut [bool; 256]) {
     }
 }
 
-/// Which sets are the zeros of a column of `k` bytes that isn't 0. Multiples have the same. Four bytes of which none is 0
-/// are left out: only sets without data positions are their zeros, so of two positions at most, and on these two
-/// dimensions of columns are 0, which the ones with a byte 0 among them span.
+/// Which sets are the zeros of a column of `k` bytes that is not 0. Multiples have the same zeros. Columns of four bytes without a
+/// 0 are left out: their zeros have no data position, so they are at most two positions. Two dimensions of columns are 0 on these
+/// positions, and the columns with a byte 0 span them.
 fn marks(k: u8, rows: &[[u8; 4]]) -> [bool; 256] {
     let mut seen = [false; 256];
     for hole in if k == 4 { 0 } else { 3 }..4 {
@@ -125,7 +125,7 @@ fn decides_on(code: &dyn Code, seen: &[bool; 256], from: u16, wanted: u16) -> bo
     decides(code, Mask(from), Mask(wanted)) == decided(seen, from, wanted)
 }
 
-/// The first position at which a call answers otherwise than the columns; of `decides`, also all positions are asked.
+/// The first position at which a call answers otherwise than the columns. `decides` is asked for all positions too.
 fn first_wrong(code: &dyn Code, rows: &[[u8; 4]], seen: &[bool; 256], from: u16) -> Option<u8> {
     let all = u16::from(u8::MAX) >> (8 - u8::min(8, code.shape().n));
     if !decides_on(code, seen, from, all) {

@@ -37,7 +37,7 @@ fn kml(k: u32, m: u32, l: u32) -> Profile
     profile(None, None, [k, m, l, 4096, NONE])
 }
 
-/// Up to three layers; an empty text is none.
+/// Up to three layers; an empty text is no layer.
 fn layers_of(texts: [&str; 3]) -> Layers {
     let mut layers = Layers::new();
     for text in texts {
@@ -146,7 +146,7 @@ fn the_missing_key_is_the_first(rt: HostRuntime) {
     assert!(rt; misses(None, layers, [NONE, NONE, NONE], Key::Mapping));
 }
 
-/// Whether what is kept of a text is this text.
+/// Whether the kept part of a text is this text.
 fn is_text(first: &[u8; 16], len: usize, text: &str) -> bool {
     len == text.len() && len <= 16 && &first[..len] == text.as_bytes()
 }
@@ -267,8 +267,8 @@ fn the_rows_are_made_layer_by_layer(rt: HostRuntime) {
     }
 }
 
-// The inputs of a layer are numbered in the layer: the first has the data chunks 1 and 2 as its inputs 0 and 1. By hand, row 4
-// is row 1 of two inputs and two outputs, 1 and 0x8f; row 5 is the sum of the three data rows.
+// The inputs of a layer are numbered in the layer: the first layer has the data chunks 1 and 2 as its inputs 0 and 1. By hand,
+// row 4 is the second row for two inputs and two outputs, 1 and 0x8f; row 5 is the sum of the three data rows.
 #[test]
 fn inputs_are_numbered_in_their_layer(rt: HostRuntime) {
     let mut code = Lrc::new();
@@ -281,7 +281,7 @@ fn inputs_are_numbered_in_their_layer(rt: HostRuntime) {
     assert!(rt; has_row(&code, 5, [1, 1, 1, 0]));
 }
 
-/// The chunks of one stripe of two bytes, where the code has two data chunks and four positions.
+/// The chunks of one stripe of two bytes, if the code has two data chunks and four positions.
 fn chunks(code: &dyn Code, stripe: [u8; 2]) -> [u8; 4] {
     let mut out = [0u8; 4];
     let shape = code.shape();

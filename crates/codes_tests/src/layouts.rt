@@ -1,4 +1,4 @@
-//! Codes as such: the faults of a profile are printed.
+//! Codes in general: the faults of a profile are printed.
 use ec_code::{Key, ProfileFault};
 use ec_words::Bytes;
 use std::alloc::Global;

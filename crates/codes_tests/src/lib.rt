@@ -1,5 +1,5 @@
-//! Tests of the public calls of the codes: words, the field, codes, reading plans and stripes. It has tests alone, one module
-//! for each crate that is tested.
+//! Tests of the public calls of the codes: words, the field, codes, reading plans and stripes. The crate has only tests, with one
+//! module for each crate that is tested.
 #![tactic(auto)]
 
 #[cfg(test)]

@@ -1,4 +1,4 @@
-//! Plans beside a search over all sets, and worked ones.
+//! Plans beside a search over all sets, and worked plans.
 ghost use Rattle.read_plan.specs.Planners.{FitsCode};
 
 use crate::given_codes::{FOUR_AND_TWO, LAYERS, layered, table_of};
@@ -8,7 +8,7 @@ use read_plan::{Planner, plan};
 use std::test::Fail;
 use table_code::TableCode;
 
-/// The plan, and no set where one of the two does not lie below n.
+/// The plan; no set if one of the two does not lie below n.
 fn planned(code: &dyn Code, avail: u16, wanted: u16) -> Option<Mask> {
     let n = code.shape().n;
     if Mask(avail).lies_below(n) && Mask(wanted).lies_below(n) {
@@ -25,7 +25,7 @@ fn decided(code: &dyn Code, from: u16, wanted: u16) -> bool {
         && decides(code, Mask(from), Mask(wanted))
 }
 
-/// By size, and then by the lists: of two sets of a size the one that has the lowest bit in which they differ.
+/// By size, and then by the lists: of two sets of one size the set with the lowest bit in which they differ comes first.
 fn is_less(one: u16, other: u16) -> bool {
     one.count_ones() < other.count_ones()
         || one.count_ones() == other.count_ones() && one.reverse_bits() > other.reverse_bits()
@@ -51,7 +51,7 @@ fn all_decided(code: &dyn Code) -> [u16; 256] {
     positions
 }
 
-/// The wanted set where it is available, and else the least of all subsets that decides it.
+/// The wanted set if it is available, and else the least of all subsets that decides it.
 fn least_of_all(positions: &[u16; 256], avail: u16, wanted: u16) -> Option<Mask> {
     if wanted & !avail == 0 {
         return Some(Mask(wanted));
@@ -79,7 +79,7 @@ fn are_least(code: &dyn Code, positions: &[u16; 256], avail: u16) -> bool {
     true
 }
 
-/// The same for each available set, where the code has so many positions.
+/// The same for each available set, if the code has this number of positions.
 fn all_are_least(code: Option<TableCode>, n: u8) -> bool {
     let code = match code {
         Some(code) => code,
@@ -94,7 +94,7 @@ fn all_are_least(code: Option<TableCode>, n: u8) -> bool {
     code.shape().n == n
 }
 
-/// Three data chunks, and rows of which two differ by a data chunk.
+/// Three data chunks; two of the rows differ by a data chunk.
 const ALIKE: [[u8; 4]; 6] = [
     [1, 0, 0, 0],
     [0, 1, 0, 0],
@@ -160,7 +160,7 @@ fn a_plan_is_the_least_of_all_sets(rt: HostRuntime) {
 }
 
 // Position 2 is lost: row 2 is row 1 less row 0 and row 3, and no two rows make it. Position 6 is lost: row 6 is row 0 less
-// row 7. Row 2 is 0 where rows 6 and 7 are not.
+// row 7. Row 2 is 0 in columns in which rows 6 and 7 are not.
 #[test]
 fn plans_of_a_code_with_mapped_positions(rt: HostRuntime) {
     let code = layered().expect(&rt, "a code");

@@ -11,7 +11,7 @@ fn given(n: u32) -> Option<u32> {
     if n == NONE { None } else { Some(n) }
 }
 
-/// Of the texts of a technique: 0 none, 1 `reed_sol_van`, 2 `single`, else another.
+/// The text of a technique: 0 for none, 1 for `reed_sol_van`, 2 for `single`, else another text.
 fn technique(which: u32) -> Option<Technique> {
     match which {
         0 => None,
@@ -125,7 +125,7 @@ fn the_rows_are_those_of_jerasure(rt: HostRuntime) {
     }
 }
 
-/// The chunks of one stripe of four bytes, where the code has four data chunks and six positions.
+/// The chunks of one stripe of four bytes, if the code has four data chunks and six positions.
 fn chunks(code: &dyn Code, stripe: [u8; 4]) -> [u8; 6] {
     let mut out = [0u8; 6];
     let shape = code.shape();

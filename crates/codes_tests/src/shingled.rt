@@ -11,7 +11,7 @@ fn given(n: u32) -> Option<u32> {
     if n == NONE { None } else { Some(n) }
 }
 
-/// Of the texts of a technique: 0 none, 1 `reed_sol_van`, 2 `single`, else another.
+/// The text of a technique: 0 for none, 1 for `reed_sol_van`, 2 for `single`, else another text.
 fn technique(which: u32) -> Option<Technique> {
     match which {
         0 => None,
@@ -65,7 +65,7 @@ fn answer_to(numbers: [u32; 7]) -> u8 {
     answer(&profile(numbers))
 }
 
-// By the bounds: 1 ≤ c ≤ m ≤ k ≤ 12 and k + m ≤ 16. 7 SmallK, 8 SmallM, 9 TooMany, 16 Order; of two the first is answered.
+// By the bounds: 1 ≤ c ≤ m ≤ k ≤ 12 and k + m ≤ 16. 7 SmallK, 8 SmallM, 9 TooMany, 16 Order; of two faults the first is answered.
 #[test]
 fn the_numbers_have_bounds(rt: HostRuntime) {
     let rows: [(u32, u32, u32, u8); 18] = [
@@ -200,7 +200,7 @@ fn a_refused_profile_leaves_the_code(rt: HostRuntime) {
     assert!(rt; has_row(&code, 5, [1, 217, 92, 172]));
 }
 
-/// The chunks of one stripe of four bytes, where the code has four data chunks and seven positions.
+/// The chunks of one stripe of four bytes, if the code has four data chunks and seven positions.
 fn chunks(code: &dyn Code, stripe: [u8; 4]) -> [u8; 7] {
     let mut out = [0u8; 7];
     let shape = code.shape();

@@ -37,7 +37,7 @@ fn a_byte_past_the_stripe_touches_the_next(rt: HostRuntime) {
     assert!(rt; touches(u32::MAX, u32::MAX, 67_108_863, 67_108_865));
 }
 
-// Position `p` gets a chunk. Whether it then has it, and the positions with a chunk are these.
+// Gives position `p` a chunk: whether it then has it, and the positions with a chunk are these.
 fn is_set(chunks: &mut Chunks, p: u8, chunk: Bytes, first: u8, mask: u16) -> bool {
     if p > 15 {
         return false;
@@ -58,7 +58,7 @@ fn set_four(alloc: Global, chunks: &mut Chunks) -> Result<bool, NoMemory> {
     )
 }
 
-// From the rule: bit p is set where position p has a chunk.
+// From the rule: bit p is set if position p has a chunk.
 #[test]
 fn a_chunk_is_kept_at_its_position(rt: HostRuntime) -> Result<(), Fail> {
     let mut chunks = Chunks::new();
@@ -107,7 +107,7 @@ fn list_of(alloc: Global, code: &dyn Code, bytes: &[u8], p: u8) -> Result<Bytes,
     encode_object(alloc, code, g, bytes, p)
 }
 
-// Whether a list has so many times one byte and then so many zeros, and no more.
+// Whether a list is this number of times one byte, then this number of zeros, and no more.
 fn is_run(list: &[u8], count: usize, byte: u8, zeros: usize) -> bool {
     for i in 0..list.len() {
         let expected = if i < count { byte } else { 0 };
@@ -148,7 +148,7 @@ fn each_position_has_its_chunks(rt: HostRuntime) -> Result<(), Fail> {
     Ok(())
 }
 
-// By hand: a stripe is 128 bytes. Of 129 bytes the last stripe has one, at data position 0.
+// By hand: a stripe is 128 bytes. The last stripe of 129 bytes has one of them, at data position 0.
 #[test]
 fn the_last_stripe_is_padded_with_zeros(rt: HostRuntime) -> Result<(), Fail> {
     let alloc = rt.alloc();
@@ -176,7 +176,7 @@ struct Given {
     short: u8,
 }
 
-// The chunk of a position, a unit short where that is asked for.
+// The chunk of a position, a unit short if that is asked for.
 fn given_chunk(
     alloc: Global,
     code: &dyn Code,
@@ -212,7 +212,7 @@ fn give(
     Ok(())
 }
 
-// The object, and want of memory where it may not be asked for.
+// The object; want of memory if it may not be asked for.
 fn decoded(
     alloc: Global,
     code: &dyn Code,

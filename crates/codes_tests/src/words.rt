@@ -18,7 +18,7 @@ fn spells(alloc: Global, text: &str, bytes: &[u8]) -> Result<bool, Fail> {
     Ok(read_hex(alloc, text.as_bytes())?.as_slice() == bytes)
 }
 
-/// Whether a text is a name, whose copy is equal.
+/// Whether a text is a name with an equal copy.
 fn is_name(alloc: Global, text: &[u8]) -> Result<bool, Fail> {
     let name = Name::read(alloc, text)?;
     let copy = name.copy(alloc)?;
@@ -56,7 +56,7 @@ fn interval(epoch: u32) -> Interval {
     }
 }
 
-/// Whether of two intervals the last goes alive.
+/// Whether the last of two intervals goes alive.
 fn last_goes_alive(alloc: Global) -> Result<bool, Fail> {
     let mut intervals = Intervals::new(alloc);
     intervals.push(interval(1))?;
@@ -104,7 +104,7 @@ fn put_all(out: &mut Bytes) -> Result<(), Fail> {
     Ok(())
 }
 
-/// Whether what was put is taken from its place.
+/// Whether the values that were put are taken from their places.
 fn are_taken(text: &[u8]) -> bool {
     take_u32(text, 0) == Ok(0x0102_0304)
         && take_u64(text, 4) == Ok(5)

@@ -4,7 +4,7 @@ use Rattle.ec_model.specs.Rows.{entry_at}
 use Rattle.ec_model.specs.Codes.{CodeRows, HasPosition}
 use Rattle.ec_matrix.specs.Matrix.{Matrix, HasSize}
 
--- the rows of the first `count` positions as far as the set has them, and zeros elsewhere
+-- the rows of those of the first `count` positions that the set has, and zeros elsewhere
 pub record ChoosesBelow (code : CodeRows) (from count : ℕ) (m : Matrix) : Type 0 where
   pub size : HasSize m code.n code.k
   pub inside : (q j : ℕ) → q < count → j < code.k → HasPosition from q → entry_at m.rows q j ≡ entry_at code.rows q j

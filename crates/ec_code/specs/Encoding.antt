@@ -1,4 +1,4 @@
--- The chunks of a stripe. Source: this project. A stripe is k units, one of each data chunk; a unit is `unit` bytes.
+-- The chunks of a stripe. Source: this project. A stripe is k units, one from each data chunk; a unit is `unit` bytes.
 use Rattle.std.specs.Prelude.{◌≡◌, ◌+◌, ◌*◌, ◌<◌, ℕ, List, slice_index}
 use Rattle.ec_model.specs.Field.{field_product}
 use Rattle.ec_model.specs.Rows.{sum_below, entry_at}

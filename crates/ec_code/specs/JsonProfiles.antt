@@ -1,5 +1,5 @@
--- What a profile in JSON means. Source: this project: an object whose members are the settings. Of a repeated key the last counts,
--- as serde_json reads objects.
+-- What a profile in JSON means. Source: this project: an object whose members are the settings. If a key is repeated its last
+-- member counts, as serde_json reads objects.
 -- Read first: Readings.antt.
 use Rattle.std.specs.Prelude.{ℕ, Bool, nat_eq, if◌then◌else◌, List, [], ◌∷◌, drop, codes, Some, Result, Err}
 use Rattle.std.specs.List.{prefix_len, starts_with}
@@ -17,8 +17,8 @@ use Rattle.ec_code.specs.LayerTexts.{layers_of_value}
 use Rattle.ec_code.specs.Readings.{GivenLayers, profile_of, profile_of_settings}
 use Rattle.ec_code.specs.Settings.{Setting, is_blank}
 
--- the text of a value: a text itself, or the digits of a whole number without a sign. Every other value has none, and stands for
--- the empty text, which only an ignored key takes.
+-- the text of a value: a text itself, or the digits of a whole number without a sign. Every other value has no text, and stands
+-- for the empty text. Only an ignored key takes that.
 abbrev pub text_of_value : Data → List ℕ
 text_of_value (string text) = text
 text_of_value (number (unsigned n)) = decimal n
@@ -29,7 +29,7 @@ abbrev pub settings_of_members : Members → List Setting
 settings_of_members no_members = []
 settings_of_members (member key value members) = record { key = key; value = text_of_value value } ∷ settings_of_members members
 
--- the layers that some members give, which may be an array
+-- the layers that some members give; they may be an array
 abbrev pub layers_of_members : Members → GivenLayers
 layers_of_members members = option_and_then layers_of_value (get_member (codes "layers") members)
 
@@ -42,11 +42,11 @@ profile_of_value _ = Err fault.Json
 abbrev pub profile_of_json : List ℕ → Result Profile ProfileFault
 profile_of_json bytes = if is_utf8 bytes then profile_of_value (read bytes) else Err fault.Json
 
--- the profile of some bytes as settings; where they are no text, no piece of them is a setting
+-- the profile of some bytes as settings; if they are no text, no piece of them is a setting
 abbrev pub profile_of_settings_text : List ℕ → Result Profile ProfileFault
 profile_of_settings_text bytes = if is_utf8 bytes then profile_of bytes else Err fault.Setting
 
--- bytes are meant as JSON: a `{` is their first past blanks and line feeds
+-- bytes are meant as JSON: a `{` is their first byte past blanks and line feeds
 abbrev pub begins_object : List ℕ → Bool
 begins_object bytes = starts_with nat_eq (drop (prefix_len is_blank bytes) bytes) (123 ∷ [])
 

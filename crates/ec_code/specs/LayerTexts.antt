@@ -1,4 +1,4 @@
--- The layers that a text or a JSON value gives. Source: Ceph's plugin lrc, whose layers are an array of arrays; the bound of 16
+-- The layers that a text or a JSON value gives. Source: Ceph's plugin lrc, with layers as an array of arrays. The bound of 16
 -- layers is this project's.
 -- Bytes: 9 is a tab, 32 a space, 34 `"`, 44 a comma, 68 `D`, 92 `\`, 93 `]`, 95 `_`, 99 `c`.
 use Rattle.std.specs.Prelude.{ℕ, Bool, true, false, not, ◌==◌, ◌&&◌, ◌||◌, nat_eq, nat_le, if◌then◌else◌, List, [], ◌∷◌, drop, codes, bytes_eq, Some, None}
@@ -30,7 +30,7 @@ uncommaed quoted escaped (b ∷ text) =
     if not quoted && ((b == 44) && is_closed text) then uncommaed quoted escaped text
     else b ∷ uncommaed (quoted_after quoted escaped b) (escaped_after quoted escaped b) text
 
--- a character of a layer: `D` for an input, `c` for an output, `_` for what it doesn't use
+-- a character of a layer: `D` for an input, `c` for an output, `_` for a position that it does not use
 abbrev pub is_mark : ℕ → Bool
 is_mark b = (b == 68) || ((b == 99) || (b == 95))
 
@@ -52,7 +52,7 @@ abbrev pub layer_marks : Data → Option (List ℕ)
 layer_marks (string text) = if list_all is_mark text then Some text else None
 layer_marks _ = None
 
--- a layer: its characters, and its settings where they are written
+-- a layer: its characters, and its settings if they are written
 abbrev pub layer_of_items : Items → Option (List ℕ)
 layer_of_items (item marks no_items) = layer_marks marks
 layer_of_items (item marks (item settings no_items)) = if are_layer_settings settings then layer_marks marks else None
@@ -61,7 +61,7 @@ layer_of_items _ = None
 abbrev pub layer_of_value : Data → Option (List ℕ)
 layer_of_value value = option_and_then layer_of_items (as_array value)
 
--- all layers of an array, where each item is one
+-- all layers of an array, if each item is one
 abbrev pub each_layer : Items → Option (List (List ℕ))
 each_layer no_items = Some []
 each_layer (item value items) = option_and_then (λ layer. option_map (λ layers. layer ∷ layers) (each_layer items)) (layer_of_value value)

@@ -16,7 +16,7 @@ mapping_value text = record { first = front_of text; len = length text; data_chu
 abbrev pub layer_value : List ℕ → Layer
 layer_value text = record { first = front_of text; len = length text }
 
--- the layers of some texts: of more than 16 the first 16
+-- the layers of some texts; if there are more than 16, the first 16
 abbrev pub layers_value : List (List ℕ) → Layers
 layers_value texts = record {
   count = min (length texts) 16;

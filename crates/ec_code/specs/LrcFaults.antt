@@ -1,5 +1,5 @@
 -- Which profiles of the plugin lrc are refused, and the codes of the others. Source: Ceph's plugin lrc, with its keys.
--- A profile has k, m and l, or a mapping and layers. Where one of k, m and l is given, the mapping and the layers don't count.
+-- A profile has k, m and l, or a mapping and layers. If one of k, m and l is given, the mapping and the layers do not count.
 use Rattle.std.specs.Prelude.{◌≡◌, ◌⊎◌, ◌||◌, ◌<◌, nat_le, if◌then◌else◌, ℕ, Bool, true, false, List, length, map, slice_index, is_some, None}
 use Rattle.std.specs.List.{range_with_len}
 use Rattle.std.specs.declared.option.Option.{Option}
@@ -32,7 +32,7 @@ layer_texts layers = map (λ i. text_of_layer (layer_at layers.each i)) (range_w
 abbrev pub data_chunks_of : Mapping → ℕ
 data_chunks_of m = if nat_le m.len 16 then data_count (mapping_text m) else m.data_chunks
 
--- what is wrong with a mapping and its layers, with bytes of a chunk in a stripe, and with the least number of positions
+-- what is wrong with a mapping and its layers, with the bytes of a chunk in a stripe, and with the least number of positions
 abbrev pub HasLayoutFault : List ℕ → List (List ℕ) → ℕ → Option ℕ → ProfileFault → Type 0
 HasLayoutFault mapping layers unit least fault.LayerLength = HasLengthFault mapping layers
 HasLayoutFault mapping layers unit least fault.LayerInput = HasInputFault mapping layers

@@ -25,7 +25,7 @@ number_of_text text =
     if bytes_eq text (decimal (digits_value 10 text)) && nat_lt (digits_value 10 text) (2 ^ 32) then Some (digits_value 10 text)
     else None
 
--- a number times 1024, where that is below 2^32
+-- a number times 1024, if that is below 2^32
 abbrev pub kibibytes : ℕ → Option ℕ
 kibibytes n = if nat_lt (n * 1024) (2 ^ 32) then Some (n * 1024) else None
 
@@ -54,7 +54,7 @@ is_number_key key = is_among (codes "k" ∷ codes "m" ∷ codes "l" ∷ []) key
 abbrev pub is_layout_key : List ℕ → Bool
 is_layout_key key = is_among (codes "mapping" ∷ codes "layers" ∷ []) key
 
--- the keys of the plugin shec that have defaults where none of them is given
+-- the keys of the plugin shec that have defaults if none of them is given
 abbrev pub is_shec_number_key : List ℕ → Bool
 is_shec_number_key key = is_among (codes "k" ∷ codes "m" ∷ codes "c" ∷ []) key
 
@@ -72,7 +72,7 @@ is_place b = (b == 68) || (b == 95)
 abbrev pub is_mapping : List ℕ → Bool
 is_mapping text = not (is_empty text) && list_all is_place text
 
--- the layers that the value of the key `layers` gives; none where it isn't there or hasn't its form
+-- the layers that the value of the key `layers` gives; none if it is not there or does not have its form
 abbrev pub GivenLayers : Type 0
 GivenLayers = Option (List (List ℕ))
 
@@ -99,7 +99,7 @@ abbrev pub value_or : {A : Type 0} → A → Option A → A
 value_or {A} default (Some value) = value
 value_or {A} default None = default
 
--- a key that the plugin doesn't have
+-- a key that the plugin does not have
 abbrev pub is_unknown : Plugin → List ℕ → Bool
 is_unknown p key = not (is_ignored key || is_key_of p key)
 
@@ -107,12 +107,12 @@ is_unknown p key = not (is_ignored key || is_key_of p key)
 abbrev pub have_number : List Setting → Bool
 have_number settings = list_any is_number_key (keys_of settings)
 
--- a key whose value hasn't its form; a mapping and layers have none beside one of k, m and l
+-- a key whose value does not have its form; beside one of k, m and l a mapping and layers do not have theirs
 abbrev pub is_bad : GivenLayers → List Setting → List ℕ → Bool
 is_bad layers settings key =
     not (has_form layers key (value_or [] (value_of settings key))) || (is_layout_key key && have_number settings)
 
--- the least of the keys that the plugin doesn't have, and of those whose values haven't their form
+-- the least of the keys that the plugin does not have, and the least of those whose values do not have their form
 abbrev pub unknown_key : Plugin → List Setting → Option (List ℕ)
 unknown_key p settings = least_text (filter (is_unknown p) (keys_of settings))
 
@@ -149,7 +149,7 @@ technique_named name =
 abbrev pub technique_at : List Setting → Option Technique
 technique_at settings = option_map technique_named (value_of settings (codes "technique"))
 
--- a number of the plugin shec: the default where none of k, m and c is given
+-- a number of the plugin shec: the default if none of k, m and c is given
 abbrev pub has_shec_number : List Setting → Bool
 has_shec_number settings = list_any is_shec_number_key (keys_of settings)
 
@@ -198,7 +198,7 @@ profile_with plugin.Shec layers settings = record {
   min_size = number_at settings (codes "min_size");
 }
 
--- a fault that carries a key, where there is such a key
+-- a fault that carries a key, if there is such a key
 abbrev pub refused_by : {A : Type 0} → (List ℕ → ProfileFault) → Option (List ℕ) → Result A ProfileFault → Result A ProfileFault
 refused_by {A} carrying (Some key) otherwise = Err (carrying key)
 refused_by {A} carrying None otherwise = otherwise

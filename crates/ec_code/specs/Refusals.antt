@@ -13,7 +13,7 @@ use Rattle.ec_code.specs.declared.fault.ProfileFault.{ProfileFault}
 use Rattle.ec_code.specs.declared.fault.ProfileFault.TheVariants as fault
 use Rattle.ec_code.specs.declared.fault.Key.TheVariants as key
 
--- the faults of a profile in the order in which they are answered; a missing key by the order of its bytes
+-- the faults of a profile in the order in which they are answered; missing keys are in the order of their bytes
 abbrev pub fault_order : List ProfileFault
 fault_order = fault.UnknownPlugin ∷ fault.Missing key.C ∷ fault.Missing key.K ∷ fault.Missing key.L ∷ fault.Missing key.Layers
     ∷ fault.Missing key.M ∷ fault.Missing key.Mapping ∷ fault.Missing key.Technique ∷ fault.Technique ∷ fault.Width ∷ fault.SmallK
@@ -48,7 +48,7 @@ abbrev pub IsFirst : (ProfileFault → Type 0) → List ProfileFault → Profile
 IsFirst has [] f = ⊥
 IsFirst has (g ∷ order) f = (has g × (f ≡ g)) ⊎ ((has g → ⊥) × IsFirst has order f)
 
--- the fault that a profile is refused by
+-- the fault with which a profile is refused
 abbrev pub IsRefusedBy : Profile → ProfileFault → Type 0
 IsRefusedBy p f = IsFirst (HasFault p) fault_order f
 
@@ -66,7 +66,7 @@ IsPluginsCode plugin.Shec p code = IsShecsCode p code
 abbrev pub IsCodeOf : Profile → CodeRows → Type 0
 IsCodeOf p code = IsPluginsCode p.plugin p code
 
--- what a plugin promises of each of its codes: of jerasure's any k positions decide all
+-- what a plugin promises for each of its codes; for jerasure: any k positions decide all
 abbrev pub KeepsPromise : Plugin → CodeRows → Type 0
 KeepsPromise plugin.Jerasure code = AnyKDecideAll code
 KeepsPromise _ code = ⊤

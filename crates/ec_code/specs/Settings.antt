@@ -18,7 +18,7 @@ is_blank b = (b == 32) || ((b == 9) || (b == 10))
 abbrev pub is_parting : ℕ → Bool
 is_parting b = (b == 44) || (b == 10)
 
--- how deep in brackets what follows a byte stands: one level further in after `[`, one level out after `]` where it is inside
+-- the level of brackets behind a byte: one level further in after `[`, one level out after a `]` that is inside
 abbrev pub level_after : ℕ → ℕ → ℕ
 level_after level b = if b == 91 then level + 1 else if b == 93 then level - 1 else level
 
@@ -50,7 +50,7 @@ is_equals b = b == 61
 abbrev pub is_setting : List ℕ → Bool
 is_setting text = nat_lt 0 (position_or_len is_equals text) && nat_lt (position_or_len is_equals text) (length text)
 
--- the setting that it is: the key stands before the first `=`, and the value after it
+-- the setting of such a text: the key stands before the first `=`, and the value after it
 abbrev pub setting_of : List ℕ → Setting
 setting_of text = record { key = before_first is_equals text; value = after_first is_equals text }
 
@@ -66,6 +66,6 @@ settings_of text = map setting_of (setting_texts text)
 abbrev pub keys_of : List Setting → List (List ℕ)
 keys_of settings = map (λ s. s.key) settings
 
--- the value of a key: that of the last setting with it
+-- the value of a key: that of the last setting with this key
 abbrev pub value_of : List Setting → List ℕ → Option (List ℕ)
 value_of settings key = option_map (λ s. s.value) (find (λ s. bytes_eq s.key key) (reverse settings))

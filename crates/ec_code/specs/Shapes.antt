@@ -8,7 +8,7 @@ pub record HasShape (code : CodeRows) (k n lead : ℕ) : Type 0 where
   pub same_n : n ≡ code.n
   pub same_lead : lead ≡ code.lead
 
--- the least number of positions that a pool works with where its profile doesn't say: k, and one more where there are two
--- coding chunks or more
+-- the least number of positions that a pool works with if its profile does not say: k, and one more if there are two coding
+-- chunks or more
 abbrev pub default_least : ℕ → ℕ → ℕ
 default_least k n = k + min 1 (n - k - 1)

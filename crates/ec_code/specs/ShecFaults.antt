@@ -1,5 +1,5 @@
 -- Which profiles of the plugin shec are refused, and the codes of the others. Source: Ceph's plugin shec, with its keys and bounds.
--- Reading fills in k = 4, m = 3 and c = 2 where a text has none of the three; where it has some, those left out are missing.
+-- Reading fills in k = 4, m = 3 and c = 2 if a text has none of the three. If it has some of them, those left out are missing.
 use Rattle.std.specs.Prelude.{◌≡◌, ◌≢◌, ◌⊎◌, ◌+◌, ◌<◌, ℕ, None}
 use Rattle.ec_model.specs.Codes.{CodeRows}
 use Rattle.ec_model.specs.Shec.{IsShec}
@@ -14,11 +14,11 @@ use Rattle.ec_code.specs.Bounds.{Given, IsUnit}
 abbrev pub AreMany : ℕ → ℕ → Type 0
 AreMany k m = (16 < k + m) ⊎ (12 < k)
 
--- the least number of positions is below k, or above all
+-- the least number of positions is below k, or above the number of all positions
 abbrev pub IsOutside : ℕ → ℕ → ℕ → Type 0
 IsOutside k m least = (least < k) ⊎ (k + m < least)
 
--- not c ≤ m ≤ k
+-- it is not so that c ≤ m ≤ k
 abbrev pub AreUnordered : ℕ → ℕ → ℕ → Type 0
 AreUnordered k m c = (m < c) ⊎ (k < m)
 

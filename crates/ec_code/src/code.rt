@@ -8,12 +8,12 @@ ghost use Rattle.ec_code.specs.Shapes.{HasShape};
 
 use crate::{Profile, ProfileFault, Shape};
 
-/// A linear code, as an object. Before a first `init` that of a plugin has one data chunk and no other position.
+/// A linear code, as an object. Before the first `init` the code of a plugin has one data chunk and no other position.
 pub trait Code: Drop {
     /// Its numbers, its rows and its data positions.
     ghost meaning: { Self → CodeRows };
 
-    /// The name of the plugin that it is.
+    /// The name of its plugin.
     ghost plugin_name: { Self → List ℕ };
 
     /// Whether it is the plugin of this name.
@@ -21,7 +21,7 @@ pub trait Code: Drop {
         ensures value { IsTrue result ↔ (plugin.now ≡ plugin_name self.now) }
         ensures is_code { IsCode (meaning self.now) };
 
-    /// Makes it the code of a profile of its plugin. A profile that has a fault is refused by the first in the order.
+    /// Makes it the code of a profile of its plugin. A profile that has a fault is refused with the first one in the order.
     fn init(&mut self, profile: &Profile) -> Result<(), ProfileFault>
         requires { name_of profile.now.plugin ≡ plugin_name self.old }
         ensures is_code { IsCode (meaning self.new) }

@@ -23,7 +23,7 @@ pub fn decides(code: &dyn Code, from: Mask, wanted: Mask) -> bool
     true
 }
 
-/// The coefficients by which the chunks of `from` make that of position `p`, where they decide it.
+/// The coefficients by which the chunks of `from` make the chunk of position `p`, if they decide it.
 pub fn combine(code: &dyn Code, from: Mask, p: u8) -> Option<[u8; 16]>
     requires from { LiesBelow (meaning code.now).n from.0 }
     requires p { p < (meaning code.now).n }
@@ -51,7 +51,7 @@ fn chosen(code: &dyn Code, from: Mask) -> Mat
     rows
 }
 
-/// Sets one row to that of the code.
+/// Sets one row to the code's row.
 fn set_row(rows: &mut Mat, code: &dyn Code, q: u8)
     requires q { q < (meaning code.now).n }
     requires size { HasSize rows.old (meaning code.now).n (meaning code.now).k }

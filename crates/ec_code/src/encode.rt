@@ -23,7 +23,7 @@ fn clear(chunk: &mut [u8])
     }
 }
 
-/// Writes a multiple of the unit of a stripe that begins at `at`. Most rows begin with 1, which is a copy.
+/// Writes a multiple of the unit of a stripe that begins at `at`. Most rows begin with 1, and that is a copy.
 fn put_unit(coefficient: u8, stripe: &[u8], at: usize, chunk: &mut [u8])
     requires { at + length chunk.old ≤ length stripe.now }
     ensures { (b : ℕ) → b < length chunk.old → slice_index chunk.new b
@@ -37,7 +37,7 @@ fn put_unit(coefficient: u8, stripe: &[u8], at: usize, chunk: &mut [u8])
     }
 }
 
-/// How many of the first `k` entries of a row are 0 before one that is not.
+/// How many of the first `k` entries of a row are 0 before the first other entry.
 fn leading_zeros(row: &[u8; 16], k: u8) -> usize
     requires { k ≤ 16 }
     ensures most { result ≤ k }

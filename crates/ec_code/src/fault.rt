@@ -38,55 +38,55 @@ impl Key {
 /// Why a profile is refused. It is printed as its name, without the key that it carries.
 #[derive(Debug, PartialEq, Eq, Drop, Error)]
 pub enum ProfileFault {
-    /// The plugin is none that is known.
+    /// There is no such plugin.
     #[error("UnknownPlugin")]
     UnknownPlugin,
     /// The plugin has no such key.
     #[error("UnknownKey")]
     UnknownKey(Bytes),
-    /// The value of this key hasn't its form.
+    /// The value of this key does not have its form.
     #[error("BadValue")]
     BadValue(Bytes),
-    /// A key that the plugin needs isn't there.
+    /// A key that the plugin needs is not there.
     #[error("Missing")]
     Missing(Key),
-    /// A technique that isn't the plugin's.
+    /// The technique is not the plugin's.
     #[error("Technique")]
     Technique,
-    /// w isn't 8.
+    /// w is not 8.
     #[error("Width")]
     Width,
-    /// Too few data chunks.
+    /// There are too few data chunks.
     #[error("SmallK")]
     SmallK,
-    /// Too few coding chunks.
+    /// There are too few coding chunks.
     #[error("SmallM")]
     SmallM,
-    /// Too many chunks.
+    /// There are too many chunks.
     #[error("TooMany")]
     TooMany,
-    /// l doesn't divide what it has to.
+    /// l does not divide the numbers that it has to divide.
     #[error("Divides")]
     Divides,
-    /// A layer isn't as long as the mapping.
+    /// A layer is not as long as the mapping.
     #[error("LayerLength")]
     LayerLength,
-    /// A layer has too few inputs, or one that isn't made before it.
+    /// A layer has too few inputs, or an input that is not made before it.
     #[error("LayerInput")]
     LayerInput,
-    /// A layer has no output, or one that is made already, or a position is made by none.
+    /// A layer has no output, or an output that is made already; or no layer makes some position.
     #[error("LayerOutput")]
     LayerOutput,
-    /// The stripe unit isn't a multiple of 32 from 32 to 65,536.
+    /// The stripe unit is not a multiple of 32 from 32 to 65,536.
     #[error("Unit")]
     Unit,
     /// min_size is out of its range.
     #[error("MinSize")]
     MinSize,
-    /// Not c ≤ m ≤ k.
+    /// It is not so that c ≤ m ≤ k.
     #[error("Order")]
     Order,
-    /// The text isn't JSON, or no object.
+    /// The text is not JSON, or is no object.
     #[error("Json")]
     Json,
     /// A piece of the text is no setting.
@@ -121,7 +121,7 @@ impl ProfileFault {
         }
     }
 
-    /// The name that is printed, and that `Display` writes.
+    /// The name that is printed. `Display` writes it too.
     pub fn name(&self) -> &'static str
         ensures { result.now ≡ fault_name_of self.now }
     {
@@ -149,7 +149,7 @@ impl ProfileFault {
 }
 
 impl ProfileFault {
-    /// The key that is printed behind the name, where the fault carries one.
+    /// The key that is printed behind the name, if the fault carries one.
     pub fn key(&self) -> Option<&[u8]>
         ensures { option_map (λ key. key.now) result ≡ carried_key self.now }
     {

@@ -1,8 +1,8 @@
-//! Linear codes over the field of 256 elements: what a code is, the profiles that it is made by, the chunks of a stripe,
+//! Linear codes over the field of 256 elements: what a code is, the profiles that it is made from, the chunks of a stripe,
 //! and which positions decide which.
 //!
-//! Headline: `decides` is true exactly where any two columns that agree on a set of positions agree on another, and
-//! `combine` gives the coefficients by which a set makes a chunk wherever it decides it.
+//! Headline: `decides` is true exactly if any two columns that agree on a set of positions agree on another, and
+//! `combine` gives the coefficients by which a set makes a chunk if it decides it.
 //!
 //! In the code with the rows 1 0, 0 1 and 1 1, each two positions decide the third, with the coefficients 1 and 1.
 #![tactic(auto)]

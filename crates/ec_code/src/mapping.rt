@@ -1,5 +1,5 @@
-//! The mapping and the layers of a profile, as far as a code needs them. They take no memory: of a longer text the first 16
-//! characters are kept, and its length tells that there were more.
+//! The mapping and the layers of a profile, as far as a code needs them. They take no memory: only the first 16 characters of
+//! a text are kept, and its length shows whether it has more.
 ghost use Rattle.std.specs.Prelude.{◌≤◌};
 
 /// A mapping: one character for each position, `D` for a data chunk.

@@ -1,4 +1,4 @@
-//! Profiles: what a code is made by.
+//! Profiles: a code is made from one.
 ghost use Rattle.std.specs.Prelude.{◌≡◌};
 ghost use Rattle.ec_code.specs.Profiles.{name_of};
 
@@ -33,7 +33,7 @@ pub enum Technique {
     Other,
 }
 
-/// The settings of a code. One that the profile leaves out is `None`.
+/// The settings of a code. A setting that the profile leaves out is `None`.
 #[derive(Clone, Copy, Debug, PartialEq, Eq)]
 pub struct Profile {
     pub plugin: Plugin,

@@ -10,7 +10,7 @@ pub struct Shape {
     pub lead: u8,
 }
 
-/// The least number of positions that a pool works with, where its profile doesn't say.
+/// The least number of positions that a pool works with, if its profile does not say.
 pub fn default_min(shape: Shape) -> u8
     requires { shape.k < shape.n }
     ensures { result ≡ default_least shape.k shape.n }

@@ -3,15 +3,15 @@ use Rattle.std.specs.Prelude.{◌≡◌, ◌≢◌, ◌<◌, ◌%◌, ◌^◌, �
 use Rattle.std.specs.declared.option.Option.{Option}
 use Rattle.ec_model.specs.Rows.{dot, row_at}
 
--- column i of some columns, and no bytes past them
+-- column i of some columns; it is empty past them
 abbrev pub column_at : List (List ℕ) → ℕ → List ℕ
 column_at columns i = slice_index_or columns i []
 
--- the row that owns column i; a column that none owns is free
+-- the row that owns column i; a column that no row owns is free
 abbrev pub owner : List (Option ℕ) → ℕ → Option ℕ
 owner owners i = slice_index_or owners i None
 
--- Each of the first `count` rows is 0 on the free columns. One that owns a column is 1 on it and 0 on all others.
+-- Each of the first `count` rows is 0 on the free columns. A row that owns a column is 1 on it and 0 on all others.
 -- A row that is 0 on every column is 0.
 pub record IsReduced (rows columns : List (List ℕ)) (owners : List (Option ℕ)) (count : ℕ) : Type 0 where
   pub free : (i q : ℕ) → i < 16 → q < count → owner owners i ≡ None

@@ -8,7 +8,7 @@ pub record Matrix : Type 0 where
   pub width : ℕ
   pub rows : List (List ℕ)
 
--- what holds of each matrix: past its rows and its columns there is 0
+-- what holds of each matrix: past its rows and its columns the entries are 0
 pub record IsMatrix (m : Matrix) : Type 0 where
   pub low : m.height ≤ 16
   pub narrow : m.width ≤ 16

@@ -16,7 +16,7 @@ pub record CombinesTo (m : Matrix) (wanted coefficients : List ℕ) : Type 0 whe
   pub past : (r : ℕ) → m.height ≤ r → slice_index coefficients r ≡ 0
   pub makes : (j : ℕ) → j < m.width → combined_entry m.rows m.height coefficients j ≡ slice_index wanted j
 
--- a column of 16 bytes, 0 past the width, that is 0 on each row of a matrix and not on the wanted one
+-- a column of 16 bytes, 0 past the width, that is 0 on each row of a matrix and not 0 on the wanted row
 pub record TellsApart (m : Matrix) (wanted column : List ℕ) : Type 0 where
   pub long : length column ≡ 16
   pub bytes : (j : ℕ) → slice_index column j < 2 ^ 8

@@ -1,4 +1,4 @@
-//! A basis of the columns, reduced row by row: a row takes a free column that it is not 0 on, and is then 1 on that
+//! A basis of the columns, reduced row by row: a row takes a free column on which it is not 0, and is then 1 on that
 //! column and 0 on the others.
 ghost use Rattle.std.specs.Prelude.{◌≡◌, ◌≢◌, ◌+◌, ◌<◌, ℕ, None, bit_xor, slice_index, IfSome, IfNone};
 ghost use Rattle.ec_model.specs.Field.{field_product};
@@ -19,7 +19,7 @@ pub fn unit_columns() -> [[u8; 16]; 16]
     columns
 }
 
-/// A free column that the row is not 0 on.
+/// A free column on which the row is not 0.
 pub fn pivot_of(
     columns: &[[u8; 16]; 16],
     owners: &[Option<usize>; 16],
@@ -53,7 +53,7 @@ fn add_column(columns: &mut [[u8; 16]; 16], i: usize, by: u8, pivot: usize)
     columns[i] = column;
 }
 
-/// Adds multiples of the pivot column, which the row is 1 on, to the other columns, so that the row is 0 on these.
+/// Adds multiples of the pivot column to the other columns, so that the row is 0 on these. The row is 1 on the pivot column.
 fn clear(columns: &mut [[u8; 16]; 16], pivot: usize, row: &[u8; 16])
     requires { pivot < 16 }
     ensures pivot { column_at columns.new pivot ≡ column_at columns.old pivot }

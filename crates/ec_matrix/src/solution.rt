@@ -8,12 +8,12 @@ use crate::Mat;
 use crate::columns::{pivot_of, reduce, unit_columns};
 use crate::lines::{add_times, front, product_of};
 
-/// How some rows make a wanted one, or a column that tells them apart.
+/// How some rows make a wanted row, or a column that tells it apart from them.
 #[derive(Clone, Copy)]
 pub enum Solved {
     /// A coefficient for each row, and 0 past the rows.
     Coefficients([u8; 16]),
-    /// A column that is 0 on each row and not on the wanted one, with 0 past the width.
+    /// A column that is 0 on each row and not 0 on the wanted row, with 0 past the width.
     Separates([u8; 16]),
 }
 
@@ -46,8 +46,8 @@ fn coefficients(
     coefficients
 }
 
-/// Coefficients that make the wanted row of the matrix's rows, or a column that shows that there are none. What `wanted`
-/// has past the matrix's width is not looked at.
+/// Coefficients that make the wanted row of the matrix's rows, or a column that shows that there are no such coefficients.
+/// The entries of `wanted` past the matrix's width are not looked at.
 pub fn solve(rows: &Mat, wanted: &[u8; 16]) -> Solved
     ensures combines { (c : _) → result ≡ Solved.Coefficients c → CombinesTo rows.now wanted.now c }
     ensures tells_apart { (d : _) → result ≡ Solved.Separates d → TellsApart rows.now wanted.now d }

@@ -1,5 +1,5 @@
 -- Linear codes, and which positions decide which. Source: this project.
--- A code has k data chunks and n positions. A column is k bytes, one of each data chunk; its chunk at a position is a byte.
+-- A code has k data chunks and n positions. A column is k bytes, one from each data chunk; its chunk at a position is a byte.
 use Rattle.std.specs.Prelude.{◌≡◌, ◌<◌, ◌≤◌, ◌^◌, ◌*◌, ◌+◌, ℕ, List, zero, suc, length, slice_index}
 use Rattle.std.specs.Int.{bit_at}
 use Rattle.ec_model.specs.Field.{field_product}
@@ -14,7 +14,7 @@ pub record CodeRows : Type 0 where
   pub rows : List (List ℕ)
   pub places : List ℕ
 
--- what holds of each code: data chunk j stands at position `places` j, whose row is unit row j
+-- what holds of each code: data chunk j stands at position `places` j, and the row of that position is unit row j
 pub record IsCode (code : CodeRows) : Type 0 where
   pub some_data : 1 ≤ code.k
   pub as_many : code.k ≤ code.n

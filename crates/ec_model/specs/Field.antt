@@ -1,6 +1,6 @@
 -- The field of 256 elements. Source: this project, with the polynomial 0x11d.
--- A number is the polynomial over the two elements 0 and 1 whose coefficient of x ^ i is the number's bit i, so a byte is
--- a polynomial of degree below 8. The sum of two polynomials is `bit_xor`.
+-- A number stands for a polynomial over the two elements 0 and 1: the coefficient of x ^ i is the number's bit i. So a byte
+-- is a polynomial of degree below 8. The sum of two polynomials is `bit_xor`.
 use Rattle.std.specs.Prelude.{◌≡◌, ℕ, ◌+◌, ◌*◌, ◌%◌, ◌^◌, ◌<◌, zero, suc, bit_xor}
 use Rattle.std.specs.Int.{bit_at}
 

@@ -52,8 +52,8 @@ pub record IsMadeBy (layer : List ℕ) (rows : List (List ℕ)) (k p : ℕ) : Ty
   pub sums : (j : ℕ) → j < k
       → entry_at rows p j ≡ sum_below (length layer) (λ q. field_product (slice_index coefficients q) (entry_at rows q j))
 
--- The code of a mapping and its layers. Each position is made once, and a layer's inputs before its outputs, so this says every
--- row, in whatever order one reads it.
+-- The code of a mapping and its layers. Each position is made once, and a layer's inputs are made before its outputs. So this
+-- defines every row, and the order in which it is read does not matter.
 pub record IsLrc (mapping : List ℕ) (layers : List (List ℕ)) (code : CodeRows) : Type 0 where
   pub data_chunks : code.k ≡ data_count mapping
   pub positions : code.n ≡ length mapping
@@ -62,11 +62,11 @@ pub record IsLrc (mapping : List ℕ) (layers : List (List ℕ)) (code : CodeRow
   pub units : (p j : ℕ) → IsData mapping p → j < code.k → entry_at code.rows p j ≡ unit_entry (mark_number 68 mapping p) j
   pub outputs : (i p : ℕ) → IsCoding (layer_text layers i) p → IsMadeBy (layer_text layers i) code.rows code.k p
 
--- some layer isn't as long as the mapping
+-- some layer is not as long as the mapping
 abbrev pub HasLengthFault : List ℕ → List (List ℕ) → Type 0
 HasLengthFault mapping layers = (i : ℕ) × (i < length layers) × (length (layer_text layers i) ≢ length mapping)
 
--- layer i has fewer than two inputs, or one that isn't made before it
+-- layer i has fewer than two inputs, or an input that is not made before it
 abbrev pub LacksInput : List ℕ → List (List ℕ) → ℕ → Type 0
 LacksInput mapping layers i =
     (data_count (layer_text layers i) < 2) ⊎ ((p : ℕ) × IsData (layer_text layers i) p × (IsMadeBefore mapping layers i p → ⊥))
@@ -74,7 +74,7 @@ LacksInput mapping layers i =
 abbrev pub HasInputFault : List ℕ → List (List ℕ) → Type 0
 HasInputFault mapping layers = (i : ℕ) × (i < length layers) × LacksInput mapping layers i
 
--- layer i has no output, or one that is made before it
+-- layer i has no output, or an output that is made before it
 abbrev pub LacksOutput : List ℕ → List (List ℕ) → ℕ → Type 0
 LacksOutput mapping layers i =
     (coding_count (layer_text layers i) < 1) ⊎ ((p : ℕ) × IsCoding (layer_text layers i) p × IsMadeBefore mapping layers i p)
@@ -84,9 +84,9 @@ abbrev pub HasOutputFault : List ℕ → List (List ℕ) → Type 0
 HasOutputFault mapping layers = ((i : ℕ) × (i < length layers) × LacksOutput mapping layers i)
     ⊎ ((p : ℕ) × (p < length mapping) × (IsMadeBefore mapping layers (length layers) p → ⊥))
 
--- Layers from three numbers: k data chunks and m coding chunks stand in g groups. A group has l + 1 positions: k / g data chunks,
--- m / g outputs of the global layer, which comes first, and at its end the output of its own local layer, whose inputs are the l
--- others.
+-- Layers from three numbers: k data chunks and m coding chunks stand in g groups. The global layer comes first, and then each group
+-- has a local layer. A group has l + 1 positions: k / g data chunks, m / g outputs of the global layer, and at its end the output of
+-- its local layer. The inputs of the local layer are the l other positions of the group.
 
 -- the number of groups
 abbrev pub group_count : ℕ → ℕ → ℕ → ℕ
@@ -96,7 +96,7 @@ group_count k m l = (k + m) / l
 abbrev pub position_count : ℕ → ℕ → ℕ → ℕ
 position_count k m l = k + m + group_count k m l
 
--- l is 0, or doesn't divide k + m, or the groups don't share k or m evenly
+-- l is 0, or does not divide k + m, or the groups do not share k or m evenly
 abbrev pub HasUnevenGroups : ℕ → ℕ → ℕ → Type 0
 HasUnevenGroups k m l =
     (l ≡ 0) ⊎ (((k + m) % l ≢ 0) ⊎ ((k % group_count k m l ≢ 0) ⊎ (m % group_count k m l ≢ 0)))
@@ -105,14 +105,14 @@ HasUnevenGroups k m l =
 abbrev pub HasManyPositions : ℕ → ℕ → ℕ → Type 0
 HasManyPositions k m l = (0 < l) × (16 < position_count k m l)
 
--- at least one data chunk and one coding chunk, which groups of l share evenly, in at most 16 positions
+-- there is at least one data chunk and one coding chunk, groups of l share them evenly, and there are at most 16 positions
 pub record MakesGroups (k m l : ℕ) : Type 0 where
   pub some_data : 1 ≤ k
   pub some_coding : 1 ≤ m
   pub few : HasManyPositions k m l → ⊥
   pub even : HasUnevenGroups k m l → ⊥
 
--- the mark of position p, where groups have l + 1 positions and d data chunks: of the mapping, of the global layer, and of the
+-- the mark of position p if each group has l + 1 positions and d data chunks: of the mapping, of the global layer, and of the
 -- local layer of group h
 abbrev pub mapping_mark : ℕ → ℕ → ℕ → ℕ
 mapping_mark d l p = if nat_lt (p % (l + 1)) d then 68 else 95

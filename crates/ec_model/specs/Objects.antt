@@ -1,5 +1,5 @@
 -- The objects of a pool, and what a command does to them. Source: this project.
--- Nothing here knows of chunks, logs or epochs. A further command is a constructor and a case of each function.
+-- These definitions do not speak of chunks, logs or epochs. A further command is a constructor and a case of each function.
 use Rattle.std.specs.Prelude.{ℕ, List, [], ◌∷◌, Option, Some, None, refl}
 use Rattle.std.specs.Ordering.{nat_cmp}
 use Rattle.std.specs.Cmp.Lexicographic.{slice_cmp}
@@ -19,12 +19,12 @@ coded_object = code_by (List ℕ) (coded_list coded_ℕ) (λ o. o.bytes) (λ byt
 abbrev pub Objects : Type 0
 Objects = map.FinMap (slice_cmp nat_cmp) Object
 
--- what a line of a script asks for
+-- a command: what a line of a script asks for
 pub data Command : Type 0 where
   Full : (name bytes : List ℕ) → Command
   Get : (name : List ℕ) → Command
 
--- what a line is answered: `ok` with the text of its second field, or a refusal
+-- the answer to a line: `ok` with the text of its second field, or a refusal
 pub data Reply : Type 0 where
   Done : (text : List ℕ) → Reply
   Absent : Reply
@@ -34,7 +34,7 @@ pub data Reply : Type 0 where
 pub data Refusal : Type 0 where
   NoObject : Refusal
 
--- a new object, of no bytes
+-- a new object without bytes
 abbrev pub new_object : Object
 new_object = record { bytes = [] }
 
@@ -43,7 +43,7 @@ abbrev pub object_or_new : Option Object → Object
 object_or_new (Some object) = object
 object_or_new None = new_object
 
--- no refusal where an object is there
+-- no refusal if an object is there
 abbrev pub refused_if_absent : Option Object → Option Refusal
 refused_if_absent (Some object) = None
 refused_if_absent None = Some NoObject
@@ -68,7 +68,7 @@ answer_to objects (Get name) = Done (encode_lower (object_or_new (map.get object
 abbrev pub reply_of_refusal : Refusal → Reply
 reply_of_refusal NoObject = Absent
 
--- the first where there is no refusal, and else the second of it
+-- the first if there is no refusal, and else the second of the refusal
 abbrev pub unless_refused : {X : Type 0} → Option Refusal → X → (Refusal → X) → X
 unless_refused None accepted refused = accepted
 unless_refused (Some refusal) accepted refused = refused refusal

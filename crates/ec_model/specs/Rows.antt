@@ -15,7 +15,7 @@ dot n row column = sum_below n (λ j. field_product (slice_index row j) (slice_i
 abbrev pub unit_entry : ℕ → ℕ → ℕ
 unit_entry i j = if i == j then 1 else 0
 
--- row i of some rows, and no bytes past them
+-- row i of some rows; it is empty past them
 abbrev pub row_at : List (List ℕ) → ℕ → List ℕ
 row_at rows i = slice_index_or rows i []
 

@@ -5,11 +5,11 @@ use Rattle.std.specs.Prelude.{ℕ, ◌+◌, ◌-◌, ◌*◌, List, ◌++◌, ma
 use Rattle.std.specs.List.{flat_map, range_with_len}
 use Rattle.std.specs.Int.{div_ceil}
 
--- the stripes of an object with `size` bytes
+-- the number of stripes of an object with `size` bytes
 abbrev pub stripe_count : ℕ → ℕ → ℕ → ℕ
 stripe_count k unit size = div_ceil size (k * unit)
 
--- the bytes of one position of that object: a chunk from each stripe
+-- the number of bytes of one position of that object: a chunk from each stripe
 abbrev pub shard_len : ℕ → ℕ → ℕ → ℕ
 shard_len k unit size = stripe_count k unit size * unit
 
@@ -21,7 +21,7 @@ padded k unit bytes = bytes ++ replicate (stripe_count k unit (length bytes) * (
 abbrev pub chunk_at : ℕ → List ℕ → ℕ → List ℕ
 chunk_at unit list index = take unit (drop (index * unit) list)
 
--- data chunk j of a stripe, where the bytes are whole stripes already: `unit` bytes
+-- data chunk j of a stripe, if the bytes are whole stripes already: `unit` bytes
 abbrev pub data_chunk : ℕ → ℕ → List ℕ → ℕ → ℕ → List ℕ
 data_chunk k unit whole j stripe = chunk_at unit whole (stripe * k + j)
 
@@ -30,7 +30,7 @@ abbrev pub data_list : ℕ → ℕ → List ℕ → ℕ → List ℕ
 data_list k unit bytes j =
     flat_map (data_chunk k unit (padded k unit bytes) j) (range_with_len 0 (stripe_count k unit (length bytes)))
 
--- those of all k data positions
+-- the bytes of all k data positions
 abbrev pub data_lists : ℕ → ℕ → List ℕ → List (List ℕ)
 data_lists k unit bytes = map (data_list k unit bytes) (range_with_len 0 k)
 

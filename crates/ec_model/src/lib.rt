@@ -1,7 +1,7 @@
-//! The definitions that every layer shares: numbers, lists and finite maps alone, and nothing of the code.
+//! The definitions that every layer shares. They speak of numbers, lists and finite maps alone, and not of the code.
 //!
-//! `specs/Stripes.antt` says how an object's bytes lie in the lists of chunks of its positions, and
-//! `specs/Objects.antt` what the objects are and what a command does to them.
+//! `specs/Stripes.antt` says how an object's bytes lie in the lists of chunks of its positions. `specs/Objects.antt` says
+//! what the objects are and what a command does to them.
 //!
 //! Headline: the chunks of the data positions, joined stripe by stripe, are the object (`data_lists_join_back`).
 #![tactic(auto)]

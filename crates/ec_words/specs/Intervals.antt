@@ -4,7 +4,7 @@ use Rattle.std.specs.declared.option.Option.{Option}
 use Rattle.ec_model.specs.Codes.{LiesBelow}
 use Rattle.ec_model.specs.Versions.{Version}
 
--- the time from one choice of the slots that are up to the next: its epoch, the mask of these slots, and, where it went alive,
+-- the time from one choice of the slots that are up to the next: its epoch, the mask of these slots, and, if it went alive,
 -- the mask of the slots that joined it and the version that it began with
 pub record Interval : Type 0 where
   pub epoch : ℕ
@@ -15,7 +15,7 @@ pub record Interval : Type 0 where
 abbrev pub went_alive : ℕ → Version → Interval → Interval
 went_alive joined base interval = record { epoch = interval.epoch; up = interval.up; alive = Some (joined, base) }
 
--- intervals of which the last one went alive, and the others stay
+-- the intervals after the last one went alive; the others stay
 unfoldable pub with_last_alive : ℕ → Version → List Interval → List Interval
 with_last_alive joined base [] = []
 with_last_alive joined base (last ∷ []) = went_alive joined base last ∷ []

@@ -10,6 +10,6 @@ max_name = 255
 abbrev pub is_name_byte : ℕ → Bool
 is_name_byte b = nat_le 33 b && nat_le b 126
 
--- 1 to `max_name` of these
+-- 1 to `max_name` such characters
 abbrev pub is_name : List ℕ → Bool
 is_name text = nat_le 1 (length text) && (nat_le (length text) max_name && list_all is_name_byte text)

@@ -2,7 +2,7 @@
 use Rattle.std.specs.Prelude.{◌≡◌, ◌⊎◌, ◌<◌, ◌≤◌, ◌^◌, ℕ, List, [], ◌∷◌, length, slice_index}
 use Rattle.std.specs.Fmt.{decimal}
 
--- a text is what is printed of a number below 2 ^ 64: its decimal digits, with no zero before them but in `0`
+-- a text is a number below 2 ^ 64 as it is printed: its decimal digits, with a leading zero only in `0`
 abbrev pub IsNumberText : List ℕ → ℕ → Type 0
 IsNumberText text n = (n < 2 ^ 64) × (text ≡ decimal n)
 
@@ -12,7 +12,7 @@ pub record StartsAsNumber (text : List ℕ) : Type 0 where
   pub digit : (48 ≤ slice_index text 0) × (slice_index text 0 < 58)
   pub alone : slice_index text 0 ≡ 48 → length text ≡ 1
 
--- a number is among these
+-- a number is among the numbers of a list
 abbrev pub OneOf : ℕ → List ℕ → Type 0
 OneOf n [] = ⊥
 OneOf n (one ∷ more) = (n ≡ one) ⊎ OneOf n more

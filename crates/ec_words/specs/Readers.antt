@@ -1,19 +1,19 @@
--- How values are read off bytes, from the front. Source: this project. `IsReadingOf` ties each reader to the bytes that it
+-- How values are read from the front of bytes. Source: this project. `IsReadingOf` ties each reader to the bytes that it
 -- reads. Each number stands with its most significant byte first.
 use Rattle.std.specs.Prelude.{◌≡◌, ◌<◌, ◌^◌, ℕ, nat_le, if◌then◌else◌, List, [], ◌∷◌, ◌++◌, length, take, drop, Option, Some, None}
 use Rattle.std.specs.List.{AllByRecursion}
 use Rattle.std.specs.Int.{w32, w64, from_be_bytes, bytes_high_first}
 use Rattle.ec_model.specs.Versions.{Version}
 
--- from a text: what its front says, and the rest; or nothing where it says none
+-- from a text: the value at its front, and the rest; or nothing if no value stands there
 abbrev pub Reader : Type 0 → Type 0
 Reader X = List ℕ → Option (X × List ℕ)
 
--- a text, all of whose bytes are bytes
+-- a text whose elements are all bytes
 abbrev pub AreBytes : List ℕ → Type 0
 AreBytes text = AllByRecursion (λ b. b < 256) text
 
--- a reader reads exactly the values that have a place in the bytes, off these
+-- a reader reads exactly the values that have a form as bytes, from these bytes
 pub record IsReadingOf {X : Type 0} (reader : Reader X) (bytes_of : X → List ℕ) (Has : X → Type 0) : Type 0 where
   pub reads : (text : List ℕ) (x : X) (rest : List ℕ) → AreBytes text → reader text ≡ Some (x, rest) → Has x × (text ≡ bytes_of x ++ rest)
   pub spelled : (x : X) (rest : List ℕ) → Has x → reader (bytes_of x ++ rest) ≡ Some (x, rest)

@@ -1,4 +1,4 @@
--- Numbers in records. Source: this project. A number stands in a fixed count of bytes, the most significant first.
+-- Numbers in records. Source: this project. A number has a fixed count of bytes, the most significant first.
 use Rattle.std.specs.Prelude.{◌≡◌, ◌≤◌, ◌+◌, ℕ, List, length, take, drop}
 use Rattle.std.specs.Int.{bytes_high_first}
 

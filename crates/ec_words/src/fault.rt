@@ -25,13 +25,13 @@ impl<T: Drop> From<AllocFailed<T>> for NoMemory {
 /// Why a text is no word of the kind that was asked for.
 #[derive(Clone, Copy, Debug, PartialEq, Eq, Error)]
 pub enum WordFault {
-    /// No name: see [`Name`](crate::Name).
+    /// It is no name: see [`Name`](crate::Name).
     #[error("no name")]
     BadName,
-    /// No decimal number.
+    /// It is no decimal number.
     #[error("no number")]
     BadNumber,
-    /// An odd number of hexadecimal digits, or a byte that is none.
+    /// It has an odd number of hexadecimal digits, or a byte that is no digit.
     #[error("no hexadecimal text")]
     BadHex,
     /// Memory ran out.

@@ -10,7 +10,7 @@ pub fn field_count(line: &[u8]) -> usize
     line.split(|b| *b == b' ').count()
 }
 
-/// The field with this index, from 0. `None` exactly where the line has no more than `i` fields.
+/// The field with this index, from 0. `None` exactly if the line has at most `i` fields.
 pub fn field(line: &[u8], i: usize) -> Option<&[u8]>
     ensures { option_map (λ piece. piece.now) result ≡ slice_get (fields line.now) i }
 {

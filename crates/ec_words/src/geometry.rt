@@ -13,7 +13,7 @@ pub struct Geometry {
     ghost within_limit: { unit ≤ 65536 },
 }
 
-/// The bytes of one position of an object with `size` bytes: a chunk of each stripe.
+/// The number of bytes of one position of an object with `size` bytes: a chunk of each stripe.
 pub fn shard_len(g: Geometry, size: u32) -> u32
     requires { shard_len g.k g.unit size < 2 ^ 32 }
     ensures { result ≡ shard_len g.k g.unit size }

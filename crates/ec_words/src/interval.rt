@@ -11,7 +11,7 @@ use std::marker::Model;
 pub struct Interval {
     pub epoch: u32,
     pub up: Mask,
-    /// Where it went alive: the slots that joined it, and the version that it began with.
+    /// If it went alive: the slots that joined it, and the version that it began with.
     pub alive: Option<(Mask, Version)>,
 }
 
@@ -68,7 +68,7 @@ impl Intervals {
         Ok(())
     }
 
-    /// Takes the last interval away.
+    /// Removes the last interval.
     pub fn pop(&mut self) -> Option<Interval>
         ensures some { IfSome result (λ last. self.old ≡ self.new ++ last ∷ []) }
         ensures none { IfNone result ((self.old ≡ []) × (self.new ≡ [])) }
@@ -76,7 +76,7 @@ impl Intervals {
         self.list.pop()
     }
 
-    /// Records of the last interval, where there is one, that it went alive. It takes no memory.
+    /// If there is an interval, records that the last one went alive. It takes no memory.
     pub fn set_last_alive(&mut self, joined: Mask, base: Version)
         ensures { self.new ≡ with_last_alive joined.0 base self.old }
     {

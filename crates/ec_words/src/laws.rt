@@ -6,7 +6,7 @@ pub fn fields_are_between_spaces()
     ensures { FieldsAreBetweenSpaces }
 {}
 
-/// A text spells some bytes exactly where it is an even number of digits.
+/// A text spells some bytes exactly if it is an even number of digits.
 pub fn hex_text_spells_some_bytes()
     ensures { HexTextSpellsSomeBytes }
 {}

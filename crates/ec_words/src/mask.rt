@@ -6,7 +6,7 @@ ghost use Rattle.ec_words.specs.Masks.{mask_text};
 use std::fmt;
 
 /// A set of positions below 16: bit `p` stands for position `p`. It is printed as its positions, ascending and joined by
-/// commas, or as `-` where it is empty.
+/// commas, or as `-` if it is empty.
 #[derive(Clone, Copy, Debug, PartialEq, Eq)]
 pub struct Mask(pub u16);
 

@@ -8,7 +8,7 @@ use crate::{Bytes, NoMemory};
 use byteorder::{BigEndian, ByteOrder};
 use thiserror::Error;
 
-/// A text ends before what was asked for, which begins at `at`.
+/// A text ends before the end of what was asked for. That begins at `at`.
 #[derive(Clone, Copy, Debug, PartialEq, Eq, Error)]
 #[error("the text ends in what begins at {at}")]
 pub struct Cut {

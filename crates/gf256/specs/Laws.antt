@@ -2,7 +2,7 @@
 use Rattle.std.specs.Prelude.{◌≡◌, ◌≢◌, ◌<◌, ◌^◌, ℕ, bit_xor}
 use Rattle.ec_model.specs.Field.{field_product, IsInverse}
 
--- products commute and associate, distribute over sums, are bytes, and keep each byte where one factor is 1
+-- products commute and associate, distribute over sums, are bytes, and keep each byte if one factor is 1
 pub record IsField : Type 0 where
   pub byte : (a b : ℕ) → field_product a b < 2 ^ 8
   pub commutative : (a b : ℕ) → field_product a b ≡ field_product b a

@@ -1,6 +1,6 @@
-//! Thirty-two bytes at a time. A product is looked up: that of a byte's low four bits in one table of 16 entries, and
-//! that of its high four bits in another, by one shuffle of bytes each. A vector holds the table twice, since a shuffle
-//! looks within each 16 bytes.
+//! Thirty-two bytes at a time. A product is looked up: the product of a byte's low four bits in one table of 16 entries, and
+//! that of its high four bits in another, by one shuffle of bytes each. A vector holds its table twice, since a shuffle looks
+//! within each 16 bytes.
 ghost use Rattle.std.specs.Prelude.{◌≡◌, ◌<◌, ◌≤◌, ◌+◌, ◌*◌, ◌/◌, ◌%◌, ℕ, length, slice_index};
 ghost use Rattle.ec_model.specs.Field.{field_product};
 ghost use Rattle.gf256.specs.Kernels.{AddsWithin};
@@ -65,7 +65,7 @@ fn table_of(factor: u8) -> [u8; 32]
     all
 }
 
-// The next entry, from those before it: by eight doublings each the tables would cost as much as 4 KiB of products.
+// The next entry, from those before it. If each entry took eight doublings, the tables would cost as much as 4 KiB of products.
 fn next_product(factor: u8, i: usize, all: &[u8; 32]) -> u8
     requires from { 1 ≤ i }
     requires inside { i < 32 }

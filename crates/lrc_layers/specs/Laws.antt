@@ -8,7 +8,7 @@ use Rattle.ec_code.specs.Mappings.{IsFront}
 use Rattle.ec_code.specs.LrcFaults.{text_of, data_chunks_of}
 use Rattle.lrc_layers.specs.Layouts.{IsSound}
 
--- a mapping and layers without a fault have one code: the order in which its rows are made doesn't matter
+-- a mapping and layers without a fault have one code: the order in which its rows are made does not matter
 abbrev pub LayersHaveOneCode : Type 0
 LayersHaveOneCode = (mapping : List ℕ) (layers : List (List ℕ)) (one other : CodeRows) → IsSound mapping layers
     → IsLrc mapping layers one → IsLrc mapping layers other → AreAlike one other

@@ -7,7 +7,7 @@ ghost use Rattle.ec_code.specs.LrcFaults.{text_of_layer, layer_texts};
 use crate::marks::{CODING, DATA, count_of, layer_of, mark_at};
 use ec_code::{Layer, Layers};
 
-/// Whether some layer isn't as long as the mapping.
+/// Whether some layer is not as long as the mapping.
 pub fn has_length_fault(mapping: &Layer, layers: &Layers) -> bool
     ensures { IsTrue result ↔ HasLengthFault (text_of_layer mapping.now) (layer_texts layers.now) }
 {
@@ -36,7 +36,7 @@ fn is_made_before(mapping: &Layer, layers: &Layers, i: u8, p: u8) -> bool
     false
 }
 
-/// Whether a layer has too few inputs, or one that isn't made before it.
+/// Whether a layer has too few inputs, or an input that is not made before it.
 fn lacks_input(mapping: &Layer, layers: &Layers, i: u8) -> bool
     requires i { i < layers.now.count }
     requires few { mapping.now.len ≤ 16 }
@@ -69,7 +69,7 @@ pub fn has_input_fault(mapping: &Layer, layers: &Layers) -> bool
     false
 }
 
-/// Whether a layer has no output, or one that is made before it.
+/// Whether a layer has no output, or an output that is made before it.
 fn lacks_output(mapping: &Layer, layers: &Layers, i: u8) -> bool
     requires i { i < layers.now.count }
     requires few { mapping.now.len ≤ 16 }
@@ -117,7 +117,7 @@ fn leaves_position_out(mapping: &Layer, layers: &Layers) -> bool
     false
 }
 
-/// Whether some layer lacks an output, or a position is made by none.
+/// Whether some layer lacks an output, or no layer makes some position.
 pub fn has_output_fault(mapping: &Layer, layers: &Layers) -> bool
     requires few { mapping.now.len ≤ 16 }
     requires lengths { HasLengthFault (text_of_layer mapping.now) (layer_texts layers.now) → ⊥ }
@@ -132,7 +132,7 @@ pub fn is_unit(unit: u32) -> bool
     32 <= unit && unit <= 65536 && unit % 32 == 0
 }
 
-/// Whether the least number of positions is below the number of data chunks or above that of all.
+/// Whether the least number of positions is below the number of data chunks or above the number of all positions.
 pub fn is_out_of_range(least: Option<u32>, mapping: &Layer) -> bool
     requires { mapping.now.len ≤ 16 }
     ensures { IsTrue result ↔ Given least (λ least.

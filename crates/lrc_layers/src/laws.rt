@@ -6,7 +6,7 @@ pub fn layers_have_one_code()
     ensures { LayersHaveOneCode }
 {}
 
-/// What is kept of a mapping and of a layer tells their texts.
+/// The kept parts of a mapping and of a layer determine their texts.
 pub fn texts_are_kept()
     ensures short { ShortTextsAreKept }
     ensures counted { DataChunksAreCounted }

@@ -42,7 +42,7 @@ fn data_chunks_of(mapping: &Mapping) -> usize
     }
 }
 
-/// The first fault of a mapping with its layers, and of the settings that lie past them in the order.
+/// The first fault of a mapping with its layers, and of the settings that come after them in the order.
 fn layout_fault(
     mapping: &Layer,
     layers: &Layers,

@@ -15,7 +15,7 @@ pub fn has_many_positions(k: u32, m: u32, l: u32) -> bool
     0 < l && 16 < chunks + chunks / u64::from(l)
 }
 
-/// Whether groups of `l` don't share k and m evenly.
+/// Whether groups of `l` do not share k and m evenly.
 pub fn has_uneven_groups(k: u32, m: u32, l: u32) -> bool
     requires { 1 ≤ k }
     ensures { IsTrue result ↔ HasUnevenGroups k m l }
@@ -28,7 +28,7 @@ pub fn has_uneven_groups(k: u32, m: u32, l: u32) -> bool
     k % groups != 0 || m % groups != 0
 }
 
-/// The marks of a mapping of `n` positions, in groups of `l` and one more with `d` data chunks each.
+/// The marks of a mapping of `n` positions, in groups of `l` + 1 positions with `d` data chunks each.
 fn mapping_marks(d: u8, l: u8, n: u8) -> [u8; 16]
     requires n { n ≤ 16 }
     requires l { l ≤ 16 }
@@ -116,7 +116,7 @@ pub fn made_by(k: u8, m: u8, l: u8) -> (Mapping, Layers)
     (mapping, layers_with(d, l, n, groups))
 }
 
-/// The mapping and the layers of k data chunks and m coding chunks: a global layer of all, and a local one for each l.
+/// The mapping and the layers of k data chunks and m coding chunks: a global layer, and a local one for each l positions.
 pub fn layers_of_kml(k: u8, m: u8, l: u8) -> Result<(Mapping, Layers), ProfileFault>
     requires k { 1 ≤ k }
     requires m { 1 ≤ m }

@@ -14,18 +14,18 @@ unled text = drop (prefix_len is_blank text) text
 abbrev pub bytes_of : List (Bor (List ℕ)) → List (List ℕ)
 bytes_of pieces = map (λ piece. piece.now) pieces
 
--- the texts of the settings among some pieces
+-- the texts of the settings in some pieces: the pieces trimmed, without the empty ones
 abbrev pub texts_in : List (List ℕ) → List (List ℕ)
 texts_in pieces = filter (λ piece. not (is_empty piece)) (map trimmed pieces)
 
--- the setting that a text of one is
+-- a setting as contracts see it
 abbrev pub shown_setting : SettingText → Setting
 shown_setting s = record { key = s.key.now; value = s.value.now }
 
--- the settings that some texts of them are
+-- some settings as contracts see them
 abbrev pub shown : List SettingText → List Setting
 shown settings = map shown_setting settings
 
--- the settings that some members in JSON are
+-- the settings that some members in JSON give
 abbrev pub shown_members : List MemberText → List Setting
 shown_members members = map (λ m. record { key = m.key.now; value = m.value }) members

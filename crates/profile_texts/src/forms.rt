@@ -5,7 +5,7 @@ ghost use Rattle.ec_code.specs.Readings.{GivenLayers, number_of_text, unit_of_te
 use ec_code::Plugin;
 use ec_words::read_u64;
 
-/// The bytes that a `K` behind a number stands for.
+/// The factor that a `K` behind a number stands for.
 const KIBIBYTE: u32 = 1024;
 
 /// The number below 2^32 whose digits a text is.
@@ -100,15 +100,15 @@ fn is_shec_key(key: &[u8]) -> bool
         || key == b"w".as_slice()
 }
 
-/// The numbers of the plugin shec that have a default where none of them is given.
+/// The numbers of the plugin shec that have a default if none of them is given.
 pub fn is_shec_number_key(key: &[u8]) -> bool
     ensures { result ≡ is_shec_number_key key.now }
 {
     key == b"k".as_slice() || key == b"m".as_slice() || key == b"c".as_slice()
 }
 
-/// Whether a value has the form that its key asks for. That of the key `layers` was read already, and has its
-/// form where it gave layers.
+/// Whether a value has the form that its key asks for. The value of the key `layers` was read already, and has its
+/// form if it gave layers.
 pub fn has_form(has_layers: bool, key: &[u8], value: &[u8]) -> bool
     ensures { (layers : GivenLayers) → has_layers ≡ is_some layers → result ≡ has_form layers key.now value.now }
 {

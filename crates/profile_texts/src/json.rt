@@ -24,8 +24,8 @@ pub struct MemberText<'a> {
     pub value: Bytes,
 }
 
-/// The profile that some bytes give: in JSON where they begin with `{` past blanks and line feeds, and else as settings. Bytes that
-/// are no UTF-8 have the fault of the form that they begin like, Json or Setting.
+/// The profile that some bytes give: in JSON if they begin with `{` past blanks and line feeds, and else as settings. Bytes that
+/// are not UTF-8 have the fault of the form that they begin like, Json or Setting.
 pub fn read_any(alloc: Global, text: &[u8]) -> Result<Profile, RegFault>
     ensures value { IfOk result (λ profile. profile_of_bytes text.now ≡ Ok profile) }
     ensures refused { (fault : _) → result ≡ Err (RegFault.Profile fault) → profile_of_bytes text.now ≡ Err fault }
@@ -55,7 +55,7 @@ fn read_settings_text(alloc: Global, text: &[u8]) -> Result<Profile, RegFault>
 }
 
 /// The profile that some bytes of JSON give: an object whose members are the settings, with texts or whole numbers without a
-/// sign as values. Of a repeated key the last member counts.
+/// sign as values. If a key is repeated its last member counts.
 pub fn read_profile_json(alloc: Global, text: &[u8]) -> Result<Profile, RegFault>
     ensures value { IfOk result (λ profile. profile_of_json text.now ≡ Ok profile) }
     ensures refused { (fault : _) → result ≡ Err (RegFault.Profile fault) → profile_of_json text.now ≡ Err fault }
@@ -110,7 +110,7 @@ fn member_texts<'a>(
     Ok(list)
 }
 
-// The text of a value, or the digits of a whole number. Any other value has none, which no key takes that isn't ignored.
+// The text of a value, or the digits of a whole number. Any other value stands for the empty text; only an ignored key takes that.
 fn text_of_value(alloc: Global, value: &Value) -> Result<Bytes, NoMemory>
     ensures { IfOk result (λ text. text ≡ text_of_value (view value.now)) }
 {

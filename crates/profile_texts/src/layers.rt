@@ -16,7 +16,7 @@ use std::alloc::Global;
 /// The most layers of a profile.
 const MOST: usize = 16;
 
-/// The layers of a setting's value: JSON, where a comma before a `]` is dropped. `None` where the text hasn't that form.
+/// The layers of a setting's value: JSON, but a comma before a `]` is dropped. `None` if the text does not have that form.
 pub fn layers_of_text(alloc: Global, text: &[u8]) -> Result<Option<Layers>, NoMemory>
     ensures { IfOk result (λ layers. layers ≡ option_map layers_value (layers_of_text text.now)) }
 {
@@ -113,7 +113,7 @@ fn is_mark(b: u8) -> bool
     b == b'D' || b == b'c' || b == b'_'
 }
 
-// Whether the settings of a layer are none but those that its code always has.
+// Whether a layer has no settings but those that its code always has.
 fn are_layer_settings(value: &Value) -> bool
     ensures { result ≡ are_layer_settings (view value.now) }
 {

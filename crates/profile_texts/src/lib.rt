@@ -1,4 +1,4 @@
-//! Profiles from texts, of settings or in JSON: a text is the profile that it means, or has its first fault.
+//! Profiles from texts, as settings or in JSON: a text is read as the profile that it means, or refused with its first fault.
 #![tactic(auto)]
 
 mod forms;

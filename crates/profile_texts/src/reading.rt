@@ -36,13 +36,13 @@ impl From<NoMemory> for RegFault {
     }
 }
 
-/// Bytes of a chunk in one stripe where the profile doesn't say.
+/// Bytes of a chunk in one stripe if the profile does not say.
 const DEFAULT_UNIT: u32 = 4096;
 
-/// The bits of a symbol where the profile doesn't say.
+/// The bits of a symbol if the profile does not say.
 const DEFAULT_WIDTH: u32 = 8;
 
-/// The profile that a text gives: settings `KEY=VALUE` parted by commas or line feeds outside square brackets.
+/// The profile that a text gives: settings `KEY=VALUE` separated by commas or line feeds outside square brackets.
 pub fn read_profile(alloc: Global, text: &str) -> Result<Profile, RegFault>
     ensures value { IfOk result (λ profile. profile_of text.now ≡ Ok profile) }
     ensures refused { (fault : _) → result ≡ Err (RegFault.Profile fault) → profile_of text.now ≡ Err fault }
@@ -67,7 +67,7 @@ fn layers_at(alloc: Global, settings: &[SettingText<'_>]) -> Result<Option<Layer
     }
 }
 
-/// The profile of some settings, of which that of the key `layers` gives these layers.
+/// The profile of some settings; the setting of the key `layers` gives these layers.
 pub fn profile_of_settings(
     alloc: Global,
     layers: Option<Layers>,
@@ -123,7 +123,7 @@ fn plugin_of(settings: &[SettingText<'_>]) -> Option<Plugin>
     }
 }
 
-// The least key that the plugin doesn't have.
+// The least key that the plugin does not have.
 fn unknown_key<'a>(plugin: Plugin, settings: &[SettingText<'a>]) -> Option<&'a [u8]>
     ensures { option_map (λ key. key.now) result ≡ unknown_key plugin (shown settings.now) }
 {
@@ -134,7 +134,7 @@ fn unknown_key<'a>(plugin: Plugin, settings: &[SettingText<'a>]) -> Option<&'a [
         .min()
 }
 
-// The least key whose value hasn't its form.
+// The least key whose value does not have its form.
 fn bad_key<'a>(has_layers: bool, settings: &[SettingText<'a>]) -> Option<&'a [u8]>
     ensures { (layers : GivenLayers) → has_layers ≡ is_some layers
         → option_map (λ key. key.now) result ≡ bad_key layers (shown settings.now) }
@@ -147,7 +147,7 @@ fn bad_key<'a>(has_layers: bool, settings: &[SettingText<'a>]) -> Option<&'a [u8
         .min()
 }
 
-// A mapping and layers have no form beside one of k, m and l.
+// Beside one of k, m and l, a mapping and layers do not have their form.
 fn is_bad(has_layers: bool, has_number: bool, settings: &[SettingText<'_>], key: &[u8]) -> bool
     ensures { (layers : GivenLayers) → has_layers ≡ is_some layers → has_number ≡ have_number (shown settings.now)
         → result ≡ is_bad layers (shown settings.now) key.now }
@@ -244,7 +244,7 @@ fn number_at(settings: &[SettingText<'_>], key: &[u8]) -> Option<u32>
     }
 }
 
-// A number of the plugin shec: the default where none of k, m and c is given.
+// A number of the plugin shec: the default if none of k, m and c is given.
 fn shec_number(default: u32, settings: &[SettingText<'_>], key: &[u8]) -> Option<u32>
     ensures { result ≡ shec_number default (shown settings.now) key.now }
 {

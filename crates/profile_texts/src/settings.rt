@@ -54,7 +54,7 @@ pub fn read_settings<'a>(
     settings_in(alloc, &pieces)
 }
 
-/// The value of a key: that of the last setting with it.
+/// The value of a key: that of the last setting with this key.
 pub fn value_of<'a>(settings: &[SettingText<'a>], key: &[u8]) -> Option<&'a [u8]>
     ensures { option_map (λ v. v.now) result ≡ value_of (shown settings.now) key.now }
 {
@@ -67,7 +67,7 @@ pub fn value_of<'a>(settings: &[SettingText<'a>], key: &[u8]) -> Option<&'a [u8]
     value
 }
 
-// The settings that some pieces are.
+// The settings that some pieces spell.
 fn settings_in<'a>(
     alloc: Global,
     pieces: &[&'a [u8]],
@@ -173,7 +173,7 @@ fn equals_at(text: &[u8]) -> usize
     i
 }
 
-// The setting that a text is. `None` where it is none.
+// The setting that a text spells. `None` if it spells none.
 fn setting(text: &[u8]) -> Option<SettingText>
     ensures some { IfSome result (λ s. shown_setting s ≡ setting_of text.now) }
     ensures whole { IsSome result → is_setting text.now ≡ true }

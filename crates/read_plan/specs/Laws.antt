@@ -6,11 +6,11 @@ use Rattle.ec_model.specs.Codes.{CodeRows}
 use Rattle.ec_words.specs.Masks.{positions_below}
 use Rattle.read_plan.specs.Plans.{size_of, ComesBefore, IsLeastPlan}
 
--- of two sets of one size the one comes before the other exactly where its ascending list is less
+-- of two sets of one size the first comes before the second exactly if its ascending list is less
 abbrev pub OrderIsByLists : Type 0
 OrderIsByLists = (one other : ℕ) → one < 2 ^ 16 → other < 2 ^ 16 → size_of one ≡ size_of other
     → ComesBefore one other ↔ IsTrue (is_lt (slice_cmp nat_cmp (positions_below 16 one) (positions_below 16 other)))
 
--- there is no more than one least plan
+-- there is at most one least plan
 abbrev pub LeastPlanIsOne : Type 0
 LeastPlanIsOne = (code : CodeRows) (avail wanted one other : ℕ) → IsLeastPlan code avail wanted one → IsLeastPlan code avail wanted other → one ≡ other

@@ -6,6 +6,6 @@ use Rattle.ec_model.specs.Codes.{CodeRows}
 pub record Kept : Type 0 where
   pub entries : ℕ
 
--- what is kept is right for a code. No answer is kept yet, so it always is, but callers are not to rest on that
+-- the kept answers are right for a code. No answer is kept yet, so this always holds, but callers must not rely on that
 unfoldable pub FitsCode : Kept → CodeRows → Type 0
 FitsCode kept code = ⊤

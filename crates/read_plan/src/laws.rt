@@ -1,12 +1,12 @@
 //! Laws about the definitions alone. Each is the contract of a function with an empty body.
 ghost use Rattle.read_plan.specs.Laws.{OrderIsByLists, LeastPlanIsOne};
 
-/// Of two sets of one size the one comes before the other exactly where its ascending list is less.
+/// Of two sets of one size the first comes before the second exactly if its ascending list is less.
 pub fn order_is_by_lists()
     ensures { OrderIsByLists }
 {}
 
-/// There is no more than one least plan.
+/// There is at most one least plan.
 pub fn least_plan_is_one()
     ensures { LeastPlanIsOne }
 {}

@@ -1,4 +1,4 @@
-//! One row taken away from the others.
+//! One row subtracted from the others.
 ghost use Rattle.std.specs.Prelude.{◌≡◌, ◌≢◌, ◌<◌, ◌^◌, ℕ, slice_index, bit_xor, length, ◌↔◌, IsTrue, IfSome, IfNone};
 ghost use Rattle.ec_model.specs.Field.{field_product};
 ghost use Rattle.ec_model.specs.Rows.{row_at, entry_at};
@@ -90,7 +90,7 @@ fn all_vanish(rows: &[[u8; 16]; 16], row: &[u8; 16], lead: u8, by: u8, set: Mask
     true
 }
 
-/// The needed rows after row `q` was taken away.
+/// The needed rows after row `q` was subtracted.
 pub fn taken(rows: &[[u8; 16]; 16], q: u8, needed: Mask) -> [[u8; 16]; 16]
     requires { q < 16 }
     ensures { IsTaken rows.now q needed.0 result }

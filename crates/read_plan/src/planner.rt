@@ -10,7 +10,7 @@ use ec_words::{Mask, NoMemory};
 use std::alloc::Global;
 use std::marker::Model;
 
-/// Answers what [`plan`] answers. It is for one code: whoever gives it another one makes a new planner.
+/// Answers what [`plan`] answers. It is for one code: for another code make a new planner.
 #[derive(Drop)]
 pub struct Planner {
     entries: usize,
@@ -34,7 +34,7 @@ impl Planner {
         Ok(Planner { entries })
     }
 
-    /// The wanted positions where they are available, else the least set of available positions that decides them.
+    /// The wanted positions if they are available, else the least set of available positions that decides them.
     pub fn plan(&mut self, code: &dyn Code, avail: Mask, wanted: Mask) -> Option<Mask>
         requires fits { FitsCode self.old (meaning code.now) }
         requires avail { LiesBelow (meaning code.now).n avail.0 }

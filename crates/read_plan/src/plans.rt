@@ -9,7 +9,7 @@ use crate::tables::table;
 use ec_code::{Code, decides};
 use ec_words::Mask;
 
-/// The wanted positions where they are available, else the least set of available positions that decides them.
+/// The wanted positions if they are available, else the least set of available positions that decides them.
 pub fn plan(code: &dyn Code, avail: Mask, wanted: Mask) -> Option<Mask>
     requires avail { LiesBelow (meaning code.now).n avail.0 }
     requires wanted { LiesBelow (meaning code.now).n wanted.0 }

@@ -1,4 +1,4 @@
-//! What a profile of the plugin jerasure says of the code, and why it may be refused.
+//! The numbers that a profile of the plugin jerasure gives, and why it may be refused.
 ghost use Rattle.std.specs.Prelude.{◌≡◌, ◌≢◌, ◌↔◌, ◌⊎◌, ◌+◌, ◌<◌, ◌≤◌, IsTrue, IsNone, IsOk, IfSome, IfOk, IfErr, Some};
 ghost use Rattle.ec_code.specs.Refusals.{Given, IsUnit, IsRefusedBy, IsAccepted};
 
@@ -38,7 +38,7 @@ fn is_unit(unit: u32) -> bool
     32 <= unit && unit <= 65536 && unit % 32 == 0
 }
 
-/// Whether the least number of positions is below k or above all.
+/// Whether the least number of positions is below k or above the number of all positions.
 fn is_out_of_range(least: Option<u32>, k: u32, m: u32) -> bool
     requires { k + m ≤ 16 }
     ensures { IsTrue result ↔ Given least (λ least. (least < k) ⊎ (k + m < least)) }
@@ -49,7 +49,7 @@ fn is_out_of_range(least: Option<u32>, k: u32, m: u32) -> bool
     }
 }
 
-/// The first fault in the order, where k and m are given.
+/// The first fault in the order, if k and m are given.
 fn fault_of(profile: &Profile, k: u32, m: u32) -> Option<ProfileFault>
     requires plugin { profile.now.plugin ≡ Plugin.Jerasure }
     requires k { profile.now.k ≡ Some k }

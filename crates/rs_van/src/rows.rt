@@ -5,7 +5,7 @@ ghost use Rattle.ec_model.specs.ReedSolVan.{IsCodingEntry};
 
 use gf256::{div, mul};
 
-/// The entry of coding row `r`, of `m`, at column `j`, of `k`.
+/// The entry of coding row `r` of `m` at column `j` of `k`.
 pub fn coding_entry(k: u8, m: u8, r: u8, j: u8) -> u8
     requires size { k + m ≤ 16 }
     requires r { r < m }
@@ -46,7 +46,7 @@ pub fn unit_row(i: u8) -> [u8; 16]
     row
 }
 
-/// The first `k` unit rows, and others past them.
+/// The first `k` rows are unit rows. Nothing is said of the rows past them.
 pub fn unit_rows(k: u8) -> [[u8; 16]; 16]
     requires { k ≤ 16 }
     ensures { (i j : ℕ) → i < k → j < k → entry_at result i j ≡ unit_entry i j }

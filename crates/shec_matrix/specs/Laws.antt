@@ -4,7 +4,7 @@ use Rattle.ec_model.specs.Rows.{entry_at}
 use Rattle.ec_model.specs.Codes.{CodeRows}
 use Rattle.ec_model.specs.Shec.{IsShec}
 
--- how many of the first coding rows have an entry at column j that isn't 0
+-- how many of the first coding rows have an entry at column j that is not 0
 abbrev pub rows_with : CodeRows → ℕ → ℕ → ℕ
 rows_with code j zero = 0
 rows_with code j (suc r) = (if entry_at code.rows (code.k + r) j == 0 then 0 else 1) + rows_with code j r

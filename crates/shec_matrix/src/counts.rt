@@ -1,11 +1,11 @@
-//! What a profile of the plugin shec says of the code, and why it may be refused.
+//! The numbers that a profile of the plugin shec gives, and why it may be refused.
 ghost use Rattle.std.specs.Prelude.{◌≡◌, ◌≢◌, ◌↔◌, ◌+◌, ◌<◌, ◌≤◌, IsTrue, IsSome, IsNone, IsOk, IfSome, IfOk, IfErr, Some};
 ghost use Rattle.ec_code.specs.Refusals.{Given, IsUnit, IsRefusedBy, IsAccepted};
 ghost use Rattle.ec_code.specs.ShecFaults.{AreMany, IsOutside, AreUnordered};
 
 use ec_code::{Key, Plugin, Profile, ProfileFault, Technique};
 
-/// The numbers of data and of coding chunks, and of the coding chunks that each data chunk is in.
+/// The number of data chunks, the number of coding chunks, and the number of coding chunks that each data chunk is in.
 #[derive(Clone, Copy)]
 pub struct Counts {
     pub k: u8,
@@ -46,7 +46,7 @@ fn is_unit(unit: u32) -> bool
     32 <= unit && unit <= 65536 && unit % 32 == 0
 }
 
-/// Whether the least number of positions is below k or above all.
+/// Whether the least number of positions is below k or above the number of all positions.
 fn is_out_of_range(least: Option<u32>, k: u32, m: u32) -> bool
     requires { k + m ≤ 16 }
     ensures { IsTrue result ↔ Given least (λ least. IsOutside k m least) }
@@ -63,7 +63,7 @@ fn are_unordered(k: u32, m: u32, c: u32) -> bool
     m < c || k < m
 }
 
-/// The first fault in the order, where k, m, c and the technique are given.
+/// The first fault in the order, if k, m, c and the technique are given.
 fn fault_of(profile: &Profile, k: u32, m: u32, c: u32) -> Option<ProfileFault>
     requires plugin { profile.now.plugin ≡ Plugin.Shec }
     requires k { profile.now.k ≡ Some k }

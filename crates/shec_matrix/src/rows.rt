@@ -6,7 +6,7 @@ ghost use Rattle.ec_model.specs.Shec.{IsShecEntry};
 use crate::windows::is_left_out;
 use rs_van::{coding_entry, unit_rows};
 
-/// The entry of coding row `r`, of `m` with the number `c`, at column `j`, of `k`.
+/// The entry of coding row `r` of `m` with the number `c`, at column `j` of `k`.
 pub fn shec_entry(k: u8, m: u8, c: u8, r: u8, j: u8) -> u8
     requires size { k + m ≤ 16 }
     requires r { r < m }

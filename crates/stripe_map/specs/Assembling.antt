@@ -1,12 +1,12 @@
 -- An object that is put together from the chunks of one position after another. Source: this project.
--- The object has whole stripes. Its unit v is data chunk v % k of stripe v / k, and so stands at v / k units in the list of that data position.
+-- The object has whole stripes. Its unit v is data chunk v % k of stripe v / k. So it is unit v / k in the list of that data position.
 use Rattle.std.specs.Prelude.{◌≡◌, ◌<◌, ◌+◌, ◌*◌, ◌/◌, ◌%◌, ℕ, List, Option, length, slice_index, bit_xor}
 use Rattle.ec_model.specs.Codes.{CodeRows, Combines}
 use Rattle.ec_model.specs.Field.{field_product}
 use Rattle.ec_model.specs.Rows.{row_at, entry_at}
 use Rattle.stripe_map.specs.Decoding.{made_byte}
 
--- for each data position the coefficients by which the chunks of a set make its list
+-- for each data position, the coefficients by which the chunks of a set make its list
 abbrev pub MakeData : CodeRows → ℕ → List (List ℕ) → Type 0
 MakeData code set rows = (j : ℕ) → j < code.k → Combines code set (slice_index code.places j) (row_at rows j)
 

@@ -1,4 +1,4 @@
--- A law of putting together. Source: this project.
+-- A law of assembling an object. Source: this project.
 use Rattle.std.specs.Prelude.{◌≡◌, ◌<◌, ◌≤◌, ◌*◌, ◌^◌, ℕ, List, Option, length}
 use Rattle.std.specs.List.{All}
 use Rattle.ec_model.specs.Codes.{CodeRows, IsCode, HasPosition, IsPositionList}
@@ -6,7 +6,7 @@ use Rattle.stripe_map.specs.Assembling.{MakeData, IsMade}
 use Rattle.stripe_map.specs.Chunks.{chunk_of_position}
 use Rattle.stripe_map.specs.Decoding.{bytes_of}
 
--- where the chunks of a set are those of an object of whole stripes, and rows make the data positions of them, what is made is the object
+-- if the chunks of a set are those of an object of whole stripes, and rows make the data positions from them, the result is the object
 abbrev pub MadeIsTheObject : Type 0
 MadeIsTheObject =
     (code : CodeRows) (unit set count : ℕ) (rows : List (List ℕ)) (chunks : List (Option (List ℕ))) (object bytes : List ℕ) → IsCode code → 1 ≤ unit

@@ -1,7 +1,7 @@
--- Chunks by position. Source: this project. They are seen as a list of 16 options, one of each position.
+-- Chunks by position. Source: this project. They are seen as a list of 16 options, one for each position.
 use Rattle.std.specs.Prelude.{◌≡◌, ◌≢◌, ℕ, List, Option, None, slice_index_or}
 
--- the chunk of a position, and none past the list
+-- the chunk of a position; none past the list
 abbrev pub chunk_of_position : List (Option (List ℕ)) → ℕ → Option (List ℕ)
 chunk_of_position chunks p = slice_index_or chunks p None
 

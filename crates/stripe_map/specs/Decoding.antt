@@ -1,5 +1,5 @@
 -- An object from chunks of some positions. Source: this project.
--- `unit` is the bytes of a chunk in one stripe; a list of a position has its chunk of each stripe, one after another.
+-- `unit` is the number of bytes of a chunk in one stripe. The list of a position has its chunk of each stripe, one after another.
 use Rattle.std.specs.Prelude.{◌≡◌, ◌↔◌, ◌<◌, ◌^◌, ℕ, List, [], Option, Some, None, IsSome, ⊤, length, map, slice_index, slice_index_or}
 use Rattle.std.specs.List.{All, flat_map, range_with_len}
 use Rattle.ec_model.specs.Codes.{CodeRows, HasPosition, LiesBelow, DecidesOne, IsPositionList}
@@ -47,7 +47,7 @@ pub record AreOfObject (code : CodeRows) (unit : ℕ) (chunks : List (Option (Li
   pub all_bytes : All (λ b. b < 2 ^ 8) bytes
   pub lists : ArePositionLists code unit chunks bytes
 
--- the bytes of a chunk, and none where it is not there
+-- the bytes of a chunk; empty if it is not there
 abbrev pub bytes_of : Option (List ℕ) → List ℕ
 bytes_of (Some bytes) = bytes
 bytes_of None = []
@@ -60,11 +60,11 @@ made_byte n row chunks i = sum_below n (λ q. field_product (slice_index row q) 
 abbrev pub made_list : ℕ → List ℕ → List (Option (List ℕ)) → ℕ → List ℕ
 made_list n row chunks long = map (made_byte n row chunks) (range_with_len 0 long)
 
--- such a list by each of k rows
+-- such a list for each of k rows
 abbrev pub made_lists : ℕ → ℕ → List (List ℕ) → List (Option (List ℕ)) → ℕ → List (List ℕ)
 made_lists k n rows chunks long = map (λ j. made_list n (row_at rows j) chunks long) (range_with_len 0 k)
 
--- a list of several, and no bytes past them
+-- one list of several; empty past them
 abbrev pub list_at : List (List ℕ) → ℕ → List ℕ
 list_at lists j = slice_index_or lists j []
 

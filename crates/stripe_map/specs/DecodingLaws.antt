@@ -10,12 +10,12 @@ use Rattle.stripe_map.specs.Decoding.{DecidesData}
 abbrev pub IsDataMask : CodeRows → ℕ → Type 0
 IsDataMask code mask = (p : ℕ) → HasPosition mask p ↔ ((j : ℕ) × ((j < code.k) × (slice_index code.places j ≡ p)))
 
--- a set decides all data positions exactly where it decides their mask
+-- a set decides all data positions exactly if it decides their mask
 abbrev pub DataIsItsMask : Type 0
 DataIsItsMask = (code : CodeRows) (from mask : ℕ) → IsCode code → IsDataMask code mask → DecidesData code from ↔ Decides code from mask
 
--- where lists are those of an object at the positions of a set, their sum, each times its coefficient, is the list of the position
--- that the coefficients make; there are such coefficients exactly where the set decides that position
+-- if lists are those of an object at the positions of a set, their sum, each times its coefficient, is the list of the position
+-- that the coefficients make; there are such coefficients exactly if the set decides that position
 abbrev pub SumIsTheList : Type 0
 SumIsTheList =
     (code : CodeRows) (unit set p : ℕ) (bytes coefficients : List ℕ) (lists : ℕ → List ℕ) (list : List ℕ) → IsCode code → Combines code set p coefficients

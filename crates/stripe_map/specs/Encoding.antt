@@ -1,12 +1,12 @@
 -- The list of one position of an object. Source: Ceph developer guide, "Erasure Coded pool" (stripe_width = k * stripe_unit,
 -- the last stripe is padded with zeros).
--- `k` is the data chunks of a stripe, `unit` the bytes of a chunk in one stripe.
+-- `k` is the number of data chunks of a stripe, `unit` the number of bytes of a chunk in one stripe.
 use Rattle.std.specs.Prelude.{◌≡◌, ℕ, ◌+◌, ◌-◌, ◌*◌, ◌/◌, ◌<◌, List, ◌++◌, length, drop, replicate, slice_index}
 use Rattle.ec_model.specs.Field.{field_product}
 use Rattle.ec_model.specs.Rows.{sum_below}
 use Rattle.ec_model.specs.Stripes.{padded}
 
--- what stands behind the whole stripes, padded with zeros to a stripe of `width` bytes
+-- the bytes behind the whole stripes, padded with zeros to a stripe of `width` bytes
 abbrev pub last_stripe : ℕ → List ℕ → List ℕ
 last_stripe width bytes =
     let rest = drop (length bytes / width * width) bytes in

@@ -1,5 +1,5 @@
 -- Stripes that a range of bytes touches. Source: Ceph developer guide, "Erasure Coded pool" (stripe_width = k * stripe_unit).
--- `width` is the bytes of a stripe; the range is the `len` bytes from `off` on.
+-- `width` is the number of bytes of a stripe; the range is the `len` bytes from `off` on.
 use Rattle.std.specs.Prelude.{◌≡◌, ◌↔◌, ℕ, ◌+◌, ◌/◌, ◌<◌, ◌≤◌}
 
 -- a stripe has a byte of the range

@@ -1,4 +1,4 @@
-//! An object that is put together from the chunks of one position after another, so that one position's are held at a time.
+//! An object that is put together from the chunks of one position after another. Only one position's chunks are held at a time.
 ghost use Rattle.std.specs.Prelude.{◌≡◌, ◌<◌, ◌≤◌, ◌+◌, ◌*◌, ◌/◌, ℕ, length, slice_index, bit_xor};
 ghost use Rattle.ec_model.specs.Field.{field_product};
 ghost use Rattle.stripe_map.specs.Assembling.{AddsPosition};
@@ -7,9 +7,9 @@ ghost use Rattle.stripe_map.specs.Sizes.{max_object};
 use ec_words::Geometry;
 use gf256::mul_add_into;
 
-/// Adds to an object of `count` stripes what the chunks of position `q` make of it, by the rows that
-/// [`data_rows`](crate::data_rows) gives. An object of zeros to which each position of a set was added is that of the set's
-/// chunks. `chunks` has `g.unit` bytes for each stripe, and `object` `g.k * g.unit`.
+/// Adds to an object of `count` stripes the part that the chunks of position `q` make, by the rows that
+/// [`data_rows`](crate::data_rows) gives. If each position of a set is added to an object of zeros, it becomes the object of
+/// the set's chunks. `chunks` has `g.unit` bytes for each stripe, and `object` has `g.k * g.unit`.
 pub fn add_position(
     rows: &[[u8; 16]; 16],
     g: Geometry,

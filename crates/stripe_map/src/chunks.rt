@@ -10,7 +10,7 @@ use ec_words::{Bytes, Mask};
 use std::marker::Model;
 use std::mem;
 
-/// A chunk, or none, for each position below 16. A contract sees a list of 16 options.
+/// For each position below 16 a chunk, or none. A contract sees a list of 16 options.
 #[derive(Debug, Drop)]
 pub struct Chunks {
     list: [Option<Bytes>; 16],
@@ -40,7 +40,7 @@ impl Chunks {
         }
     }
 
-    /// Position `p` gets a chunk, in the place of one that it may have.
+    /// Gives position `p` a chunk, in the place of the one that it may have.
     pub fn set(&mut self, p: u8, chunk: Bytes)
         requires { p < 16 }
         ensures value { chunk_of_position self.new p ≡ Some chunk }
@@ -50,7 +50,7 @@ impl Chunks {
         self.list[p as usize] = Some(chunk);
     }
 
-    /// Hands out the chunk of position `p`, which then has none.
+    /// Takes the chunk of position `p` out. The position has none afterwards.
     pub fn take(&mut self, p: u8) -> Option<Bytes>
         requires { p < 16 }
         ensures value { result ≡ chunk_of_position self.old p }

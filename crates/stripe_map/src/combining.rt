@@ -12,7 +12,7 @@ use ec_code::{Code, combine};
 use ec_words::Mask;
 use gf256::mul_add_into;
 
-/// For each data position the coefficients by which the chunks of a set make its list.
+/// For each data position, the coefficients by which the chunks of a set make its list.
 pub fn data_rows(code: &dyn Code, from: Mask) -> [[u8; 16]; 16]
     requires below { LiesBelow (meaning code.now).n from.0 }
     requires decided { DecidesData (meaning code.now) from.0 }
@@ -26,7 +26,7 @@ pub fn data_rows(code: &dyn Code, from: Mask) -> [[u8; 16]; 16]
     rows
 }
 
-// The coefficients of a data position: its own chunk alone where it is in the set.
+// The coefficients of a data position: its own chunk alone if it is in the set.
 fn data_row(code: &dyn Code, from: Mask, j: u8) -> [u8; 16]
     requires below { LiesBelow (meaning code.now).n from.0 }
     requires j { j < (meaning code.now).k }
@@ -53,7 +53,7 @@ fn unit_row(p: u8) -> [u8; 16]
     row
 }
 
-/// Makes a piece of a position's list, that from `at` on, of the first `n` positions' chunks.
+/// Makes the piece of a position's list that begins at `at`, from the chunks of the first `n` positions.
 pub fn make_piece(n: u8, row: &[u8; 16], chunks: &Chunks, at: usize, long: usize, piece: &mut [u8])
     requires n { n ≤ 16 }
     requires lengths { AllHaveLength chunks.now long }
@@ -67,7 +67,7 @@ pub fn make_piece(n: u8, row: &[u8; 16], chunks: &Chunks, at: usize, long: usize
     }
 }
 
-// Adds a multiple of a piece of a chunk, where it is there.
+// Adds a multiple of a piece of a chunk, if the chunk is there.
 fn add_chunk(coefficient: u8, chunk: Option<&[u8]>, at: usize, long: usize, piece: &mut [u8])
     requires lengths { HasLength (option_copied chunk) long }
     requires inside { at + length piece.old ≤ long }

@@ -20,7 +20,7 @@ pub enum DecodeFault {
     /// The positions of the chunks do not decide the data positions.
     #[error("not decided")]
     NotDecided,
-    /// A chunk has not the length of a position's list.
+    /// The length of a chunk is not that of a position's list.
     #[error("wrong lengths")]
     Lengths,
     /// Memory ran out.
@@ -36,8 +36,8 @@ impl From<NoMemory> for DecodeFault {
     }
 }
 
-/// The object of `size` bytes that these chunks are of. The chunk of a position is that position's list: its chunk of each
-/// stripe, one after another. Chunks of no object give some bytes.
+/// The object of `size` bytes to which these chunks belong. The chunk of a position is that position's list: its chunk of each
+/// stripe, one after another. Chunks that belong to no object give some bytes.
 pub fn decode_object(
     alloc: Global,
     code: &dyn Code,

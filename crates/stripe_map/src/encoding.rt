@@ -11,8 +11,8 @@ use ec_words::{Bytes, Geometry, NoMemory};
 use std::alloc::Global;
 
 /// The chunks of position `p` of an object with these bytes, joined over its stripes: `g.unit` bytes for each stripe of
-/// `g.k * g.unit` bytes, where the last stripe is padded with zeros. An object without bytes has none.
-/// `Err` where memory is out.
+/// `g.k * g.unit` bytes. The last stripe is padded with zeros. For an object without bytes the result is empty.
+/// `Err` if memory runs out.
 pub fn encode_object(
     alloc: Global,
     code: &dyn Code,
@@ -31,7 +31,7 @@ pub fn encode_object(
     Ok(Bytes::of(list))
 }
 
-/// What stands behind the whole stripes, padded with zeros to a stripe.
+/// The bytes behind the whole stripes, padded with zeros to a stripe.
 fn padded_rest(alloc: Global, bytes: &[u8], width: usize) -> Result<Vec<u8>, NoMemory>
     requires { 1 ≤ width }
     ensures { IfOk result (λ last. last.items ≡ last_stripe width bytes.now) }
@@ -42,7 +42,7 @@ fn padded_rest(alloc: Global, bytes: &[u8], width: usize) -> Result<Vec<u8>, NoM
     Ok(last)
 }
 
-/// The bytes of a stripe: those of the object, or the last stripe.
+/// The bytes of a stripe: a part of the object, or the padded last stripe.
 fn stripe_of<'a>(g: Geometry, bytes: &'a [u8], last: &'a [u8], stripe: usize) -> &'a [u8]
     requires within_limit { length bytes.now ≤ max_object }
     requires last { last.now ≡ last_stripe (g.k * g.unit) bytes.now }

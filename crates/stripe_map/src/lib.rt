@@ -1,9 +1,8 @@
-//! How an object lies in stripes: sizes of chunks, the stripes that a range of bytes touches, the chunks of each position, and the
-//! object that chunks give.
+//! How an object lies in stripes: sizes of chunks, the stripes that a range of bytes touches, the chunks of each position, and
+//! the object that chunks give.
 //!
 //! Headline: the chunks that [`encode_object`] gives are those of the position, by `IsPositionList` of ec_model's
-//! specs/Codes.antt, and [`decode_object`] gives the object of such chunks exactly where their positions decide the data
-//! positions.
+//! specs/Codes.antt. [`decode_object`] gives the object of such chunks exactly if their positions decide the data positions.
 //!
 //! With two data chunks and a unit of 4 bytes the object 1, 2, .., 9 has two stripes: 1 to 8, and 9 with seven zeros. Its
 //! chunks at data position 1 are 5, 6, 7, 8, 0, 0, 0, 0, and the bytes 7 and 8 and the next touch both stripes.

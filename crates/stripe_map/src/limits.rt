@@ -1,6 +1,6 @@
 //! The numbers of this crate.
 
-/// A chunk of a buffer that is coded whole has a multiple of these bytes.
+/// The size of a chunk of a buffer that is coded whole is a multiple of this number of bytes.
 pub const ALIGNMENT: u64 = 32;
 
 /// The bytes of the longest buffer that is coded whole.

@@ -5,7 +5,7 @@ ghost use Rattle.stripe_map.specs.Touch.{IsTouched};
 
 use ec_words::Geometry;
 
-/// The first stripe that has one of the `len` bytes from `off` on, and how many stripes have one: `(0, 0)` where `len` is 0.
+/// The first stripe that has one of the `len` bytes from `off` on, and how many stripes have one: `(0, 0)` if `len` is 0.
 /// A stripe is `g.k * g.unit` bytes.
 pub fn touched(g: Geometry, off: u32, len: u32) -> (u32, u32)
     ensures value { IsTouched (g.k * g.unit) off len result.0 result.1 }

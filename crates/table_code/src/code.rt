@@ -21,7 +21,7 @@ pub struct TableCode {
 }
 
 impl TableCode {
-    /// The code of these rows and data positions. `None` where they are no code.
+    /// The code of these rows and data positions. `None` if they are no code.
     pub fn of(shape: Shape, rows: [[u8; 16]; 16], places: [u8; 16]) -> Option<TableCode>
         ensures value { IfSome result (λ t.
             ⟦<TableCode as Code>⟧.meaning t ≡ code_of shape.k shape.n shape.lead rows places) }

@@ -18,7 +18,7 @@ pub struct Table {
 }
 
 impl Table {
-    /// The table of these rows and data positions. `None` where they are no code.
+    /// The table of these rows and data positions. `None` if they are no code.
     pub fn of(shape: Shape, rows: [[u8; 16]; 16], places: [u8; 16]) -> Option<Table>
         ensures value { IfSome result (λ t. code_of t.k t.n t.lead t.rows t.places
             ≡ code_of shape.k shape.n shape.lead rows places) }
