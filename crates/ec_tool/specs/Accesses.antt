@@ -5,7 +5,7 @@ use Rattle.ec_tool.specs.Files.{Appends, FileMap, KeepsOthers, Writes, max_file}
 use Rattle.ec_tool.specs.declared.stop.Stop.{Stop}
 use Rattle.ec_tool.specs.declared.stop.Stop.TheVariants.{Missing, Failed, TooLong, NoMemory}
 
--- what an answer says of a file, which may be there, and of its name
+-- what an answer says of a file that may be there, and of its name
 abbrev pub SaysOf : Option (List ℕ) → List ℕ → Result (List ℕ) Stop → Type 0
 SaysOf file name (Ok bytes) = (file ≡ Some bytes) × (length bytes ≤ max_file)
 SaysOf file name (Err (Missing shown)) = (file ≡ None) × (string_bytes shown ≡ name)
@@ -14,7 +14,7 @@ SaysOf file name (Err (Failed shown)) = string_bytes shown ≡ name
 SaysOf file name (Err NoMemory) = ⊤
 SaysOf file name (Err _) = ⊥
 
--- what an answer says where the files are not told: the name alone
+-- what an answer says if the files are not told: the name alone
 abbrev pub SaysName : List ℕ → Result (List ℕ) Stop → Type 0
 SaysName name (Ok bytes) = ⊤
 SaysName name (Err (Missing shown)) = string_bytes shown ≡ name
@@ -27,7 +27,7 @@ abbrev pub ReadsOrStops : Option FileMap → List ℕ → Result (List ℕ) Stop
 ReadsOrStops (Some files) name result = SaysOf (map.get files name) name result
 ReadsOrStops None name result = SaysName name result
 
--- the files before and after are so, where they are told; whether they are stays
+-- if the files are told, those before and after are so; whether they are told stays
 abbrev pub Told : Option FileMap → Option FileMap → (FileMap → FileMap → Type 0) → Type 0
 Told (Some old) (Some new) so = so old new
 Told None None so = ⊤

@@ -13,7 +13,7 @@ use Rattle.ec_tool.specs.Files.{FileMap, max_file}
 abbrev pub chunk_name : List ℕ → ℕ → List ℕ
 chunk_name name p = name ++ 46 ∷ decimal p
 
--- each wanted position is one of n
+-- each wanted position is below n
 abbrev pub AreBelow : ℕ → List ℕ → Type 0
 AreBelow n wanted = All (λ p. p < n) wanted
 
@@ -47,11 +47,11 @@ pub record DecideByOthers (code : CodeRows) (set p : ℕ) : Type 0 where
       → ((q : ℕ) → q < code.n → q ≢ p → HasPosition set q → chunk_of code one q ≡ chunk_of code other q)
       → chunk_of code one p ≡ chunk_of code other p
 
--- a set has no position to spare: the others don't decide it
+-- a set has no position to spare: the others do not decide it
 abbrev pub NeedsEach : CodeRows → ℕ → Type 0
 NeedsEach code set = (p : ℕ) → HasPosition set p → DecideByOthers code set p → ⊥
 
--- the set that is read of the listed positions: the data positions where they are listed, else the least set that decides them
+-- the set of the listed positions that is read: the data positions if they are listed, else the least set that decides them
 pub record IsReadPlan (code : CodeRows) (listed : List ℕ) (plan : ℕ) : Type 0 where
   pub given : ℕ
   pub data_set : ℕ
@@ -79,7 +79,7 @@ pub record AreChunksOf (code : CodeRows) (unit : ℕ) (files : FileMap) (name : 
   pub each : (p : ℕ) (chunks : List ℕ) → HasPosition set p → map.get files (chunk_name name p) ≡ Some chunks → IsPositionList code unit bytes p chunks
 
 -- a file was decoded from the chunks of a set of positions, each of this length: it has the bytes of all the stripes, those of
--- the object that the chunks are of. The chunks that hold bytes are its own, so there is such an object
+-- the object to which the chunks belong. The chunks that hold bytes are its own, so there is such an object
 pub record IsDecoded (code : CodeRows) (unit : ℕ) (files : FileMap) (name : List ℕ) (set long : ℕ) (found : List ℕ) : Type 0 where
   pub whole : length found ≡ code.k * long
   pub is : (bytes : List ℕ) → length bytes ≡ code.k * long → AreChunksOf code unit files name set bytes → found ≡ bytes

@@ -1,4 +1,4 @@
--- What is read of files of chunks, and what they give. Source: this project.
+-- Reading files of chunks, and what they give. Source: this project.
 use Rattle.std.specs.Prelude.{◌≡◌, ◌↔◌, ◌<◌, ◌≤◌, ◌^◌, ◌*◌, ◌%◌, ⊤, ℕ, List, length, take, slice_index, Option, Some, None, IsSome, IsSomeAnd, Result, Ok, Err, string_bytes}
 use Rattle.std.specs.List.{All}
 use Rattle.std.specs.FinMap as map
@@ -28,12 +28,12 @@ AreFetched files name positions chunks =
     (i : ℕ) → i < length positions → (bytes : List ℕ) × (map.get files (chunk_name name (slice_index positions i)) ≡ Some bytes)
     × (length bytes ≤ max_file) × (chunk_of_position chunks (slice_index positions i) ≡ Some bytes)
 
--- the files of chunks of some positions were read, where files are told
+-- the files of chunks of some positions were read, if files are told
 abbrev pub Fetches : Option FileMap → List ℕ → List ℕ → List (Option (List ℕ)) → Type 0
 Fetches (Some files) name positions chunks = AreFetched files name positions chunks
 Fetches None name positions chunks = ⊤
 
--- the file of a position's chunks can't be read
+-- the file of a position's chunks cannot be read
 abbrev pub StopsAtFile : Option FileMap → List ℕ → List ℕ → ℕ → Stop → Type 0
 StopsAtFile (Some files) name positions i (Missing shown) =
     (string_bytes shown ≡ chunk_name name (slice_index positions i)) × AreReadable files name (take i positions)
@@ -53,11 +53,11 @@ StopsAtFile files name positions i _ = ⊥
 abbrev pub StopsReading : Option FileMap → List ℕ → List ℕ → Stop → Type 0
 StopsReading files name positions stop = (i : ℕ) × (i < length positions) × StopsAtFile files name positions i stop
 
--- all chunks have this length, which is that of whole units
+-- all chunks have this length, and it is that of whole units
 abbrev pub AreWhole : ℕ → ℕ → List (Option (List ℕ)) → Type 0
 AreWhole unit long chunks = (long % unit ≡ 0) × AllHaveLength chunks long
 
--- a file was put together from the chunks of a set of positions: where they are those of an object, it is the object; and those
+-- a file was put together from the chunks of a set of positions: if they are those of an object, it is the object; and the chunks
 -- of a set with no position to spare are its own
 pub record IsFileOfChunks (code : CodeRows) (unit long set : ℕ) (chunks : List (Option (List ℕ))) (found : List ℕ) : Type 0 where
   pub whole : length found ≡ code.k * long

@@ -1,4 +1,4 @@
--- What is written of a file's chunks, and how far. Source: this project.
+-- Writing the chunks of a file, and how far it comes. Source: this project.
 use Rattle.std.specs.Prelude.{◌≡◌, ◌<◌, ℕ, List, length, take, slice_index, Option, Result, Ok, Err, string_bytes}
 use Rattle.std.specs.FinMap as map
 use Rattle.ec_model.specs.Codes.{CodeRows, IsPositionList}
@@ -13,12 +13,12 @@ abbrev pub HasChunk : CodeRows → ℕ → List ℕ → List ℕ → ℕ → Fil
 HasChunk code unit name bytes p old new =
     (chunks : List ℕ) × IsPositionList code unit bytes p chunks × (new ≡ map.insert old (chunk_name name p) chunks)
 
--- those of some positions were written, one file after another
+-- the chunks of some positions were written, one file after another
 abbrev pub HasChunks : CodeRows → ℕ → List ℕ → List ℕ → List ℕ → FileMap → FileMap → Type 0
 HasChunks code unit name bytes wanted old new =
     (written : List Written) × AreChunkFiles code unit name bytes wanted written × (new ≡ after old written)
 
--- those of some positions were written, and the file of this name may have any bytes
+-- the chunks of some positions were written, and the file of this name may have any bytes
 abbrev pub HasChunksBut : CodeRows → ℕ → List ℕ → List ℕ → List ℕ → List ℕ → FileMap → FileMap → Type 0
 HasChunksBut code unit name bytes wanted next old new =
     (written : List Written) × AreChunkFiles code unit name bytes wanted written × KeepsOthers (after old written) new next
@@ -33,7 +33,7 @@ abbrev pub WritesOne : {T : Type 0} → CodeRows → ℕ → List ℕ → List �
 WritesOne {T} code unit name bytes p before now (Ok done) = Told before now (HasChunk code unit name bytes p)
 WritesOne {T} code unit name bytes p before now (Err stop) = StopsOne name p before now stop
 
--- a failure or want of memory in writing those of some positions comes at one of them
+-- a failure or want of memory in writing the chunks of some positions comes at one of them
 abbrev pub StopsChunks : CodeRows → ℕ → List ℕ → List ℕ → List ℕ → Option FileMap → Option FileMap → Stop → Type 0
 StopsChunks code unit name bytes wanted before now (Failed shown) =
     (count : ℕ) × (count < length wanted) × (string_bytes shown ≡ chunk_name name (slice_index wanted count))

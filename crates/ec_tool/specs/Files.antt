@@ -1,4 +1,4 @@
--- What is known of files. Source: this project. A name is its bytes.
+-- Files, as contracts know them. Source: this project. A name is its bytes.
 use Rattle.std.specs.Prelude.{◌≡◌, ◌≢◌, ◌<◌, ◌≤◌, ◌^◌, ℕ, List, [], ◌++◌, length, Option, Some, None, Result, Ok, Err, IsSomeAnd, MatchResult, ⊤}
 use Rattle.std.specs.Ordering.{nat_cmp}
 use Rattle.std.specs.Cmp.Lexicographic.{slice_cmp}
@@ -8,7 +8,7 @@ use Rattle.stripe_map.specs.Decoding.{bytes_of}
 use Rattle.ec_tool.specs.declared.fault.FileFault.{FileFault}
 use Rattle.ec_tool.specs.declared.fault.FileFault.TheVariants.{Missing, TooLong, Failed, NoMemory}
 
--- the bytes of the longest file that is read
+-- the number of bytes of the longest file that is read
 abbrev pub max_file : ℕ
 max_file = 2 ^ 26
 
@@ -16,8 +16,8 @@ max_file = 2 ^ 26
 abbrev pub FileMap : Type 0
 FileMap = map.FinMap (slice_cmp nat_cmp) (List ℕ)
 
--- what an answer says of a file, which may be there: `Ok` has all its bytes, `Missing` says that it is not there,
--- `TooLong` that it has more than `max_file` bytes, and `Failed` and `NoMemory` say nothing
+-- what an answer says of a file that may be there: `Ok` has all its bytes, `Missing` says that it is not there,
+-- `TooLong` says that it has more than `max_file` bytes, and `Failed` and `NoMemory` say nothing
 abbrev pub AnswersFor : Option (List ℕ) → Result (List ℕ) FileFault → Type 0
 AnswersFor file (Ok bytes) = (file ≡ Some bytes) × (length bytes ≤ max_file)
 AnswersFor file (Err Missing) = file ≡ None
@@ -25,7 +25,7 @@ AnswersFor file (Err TooLong) = IsSomeAnd file (λ bytes. max_file < length byte
 AnswersFor file (Err Failed) = ⊤
 AnswersFor file (Err NoMemory) = ⊤
 
--- an answer is right for the file of this name, where the files are told
+-- an answer is right for the file of this name, if the files are told
 abbrev pub Reads : Option FileMap → List ℕ → Result (List ℕ) FileFault → Type 0
 Reads None name result = ⊤
 Reads (Some files) name result = AnswersFor (map.get files name) result
@@ -42,16 +42,15 @@ Writes (Some old) None name bytes result = ⊥
 Writes (Some old) (Some new) name bytes result =
     MatchResult result (λ _. new ≡ map.insert old name bytes) (λ _. KeepsOthers old new name)
 
--- the file of this name, which is empty where it is not there, has these bytes more at its end, and all others stay; at a failure
--- nothing is said of that one file. Whether the files are told stays
+-- the file of this name has these bytes more at its end, and all others stay; a file that is not there counts as empty. At a
+-- failure nothing is said of that one file. Whether the files are told stays
 abbrev pub Appends : {T E : Type 0} → Option FileMap → Option FileMap → List ℕ → List ℕ → Result T E → Type 0
 Appends None new name bytes result = new ≡ None
 Appends (Some old) None name bytes result = ⊥
 Appends (Some old) (Some new) name bytes result =
     MatchResult result (λ _. new ≡ map.insert old name (bytes_of (map.get old name) ++ bytes)) (λ _. KeepsOthers old new name)
 
--- the count of a read: it never falls, stays at each answer but `Failed`, rises there, and stands still at the
--- largest
+-- the count of a read: it stays at each answer but `Failed`, and rises there, but not above its largest value. It never falls
 pub record HasReadCause (before now : ℕ) (result : Result (List ℕ) FileFault) : Type 0 where
   pub later : before ≤ now
   pub kept : result ≢ Err Failed → now ≡ before

@@ -12,7 +12,7 @@ use Rattle.ec_tool.specs.Words.{texts_of}
 use Rattle.ec_tool.specs.declared.request.Request.{Request}
 use Rattle.ec_tool.specs.declared.request.Request.TheVariants.{Wrong, Exists, Validate, Size, Encode, Decode}
 
--- a run: its status, what was said, the files where they are told, and the count of their faults, before it and now
+-- a run: its status, what was said, the files if they are told, and the count of their faults, before it and now
 pub record Run : Type 0 where
   pub status : ℕ
   pub said_before : Option (List ℕ)
@@ -26,7 +26,7 @@ pub record Run : Type 0 where
 abbrev pub LeavesFiles : Run → Type 0
 LeavesFiles run = (run.now ≡ run.before) × (run.is ≡ run.was)
 
--- what is asked for comes to this status and this line; `named` tells of which name there is a box
+-- what is asked for comes to this status and this line; `named` says for which names there is a box
 abbrev pub Does : (List ℕ → Type 0) → Request → ℕ → List ℕ → Run → Type 0
 Does named Wrong status line run = (status ≡ 2) × (line ≡ usage_line) × LeavesFiles run
 Does named (Exists plugin) status line run =

@@ -7,11 +7,11 @@ use Rattle.ec_code.specs.declared.fault.ProfileFault.TheVariants as fault
 use Rattle.plugin_reg.specs.Opening.{GivesProfile, IsRefused}
 use Rattle.ec_tool.specs.Words.{Job}
 
--- a job is refused: its profile by its first fault, or else its unit
+-- a job is refused: its profile with its first fault, or else its unit
 abbrev pub IsRefusedJob : Job → ProfileFault → Type 0
 IsRefusedJob job f = IsRefused job.profile f ⊎ ((p : Profile) × GivesProfile job.profile p × (IsUnit job.unit → ⊥) × (f ≡ fault.Unit))
 
--- a job is accepted: its profile, which is this one, and its unit
+-- a job is accepted: its profile is this one, and its unit is accepted
 pub record GivesJob (job : Job) (p : Profile) : Type 0 where
   pub profile : GivesProfile job.profile p
   pub unit : IsUnit job.unit

@@ -1,4 +1,4 @@
--- The file that chunks make, made and written piece after piece. Source: this project.
+-- The file that chunks make; it is made and written piece after piece. Source: this project.
 use Rattle.std.specs.Prelude.{◌≡◌, ◌<◌, ◌≤◌, ◌+◌, ◌*◌, ◌/◌, ◌%◌, ⊤, ℕ, List, Bool, Option, length, slice_index, bit_xor, Result, Ok, Err, string_bytes}
 use Rattle.ec_model.specs.Field.{field_product}
 use Rattle.ec_model.specs.Rows.{row_at, entry_at}
@@ -18,12 +18,12 @@ ChecksLengths {T} k unit name long chunks (Err (TooLong shown)) = AreWhole unit 
 ChecksLengths {T} k unit name long chunks (Err NoMemory) = ⊤
 ChecksLengths {T} k unit name long chunks (Err _) = ⊥
 
--- these are `count` stripes, those from stripe `from` on, of what the first n positions' chunks make by some rows
+-- these are the `count` stripes from stripe `from` on that the first n positions' chunks make by some rows
 pub record AreMadeStripes (k unit n : ℕ) (rows : List (List ℕ)) (chunks : List (Option (List ℕ))) (from count : ℕ) (piece : List ℕ) : Type 0 where
   pub long : length piece ≡ count * k * unit
   pub bytes : (v b : ℕ) → v < count * k → b < unit → slice_index piece (v * unit + b) ≡ made_byte n (row_at rows (v % k)) chunks (from * unit + (v / k * unit + b))
 
--- to some stripes was added what a position's chunks, which may be there, make of them
+-- the part that a position's chunks make was added to some stripes, if the chunks are there
 abbrev pub AddsStripes : ℕ → ℕ → List (List ℕ) → ℕ → Option (List ℕ) → ℕ → ℕ → List ℕ → List ℕ → Type 0
 AddsStripes k unit rows q chunk from count old new = (v b : ℕ) → v < count * k → b < unit
     → slice_index new (v * unit + b)
@@ -34,13 +34,13 @@ abbrev pub PutsStripes : {T E : Type 0} → ℕ → ℕ → ℕ → List (List �
 PutsStripes {T} {E} k unit n rows chunks from count before now name first result =
     (piece : List ℕ) × AreMadeStripes k unit n rows chunks from count piece × Puts {T = T} {E = E} before now name first piece result
 
--- the file of this name has what the chunks make, and all others stay; at a failure nothing is said of that one file
+-- the file of this name has the stripes that the chunks make, and all others stay; at a failure nothing is said of that one file
 abbrev pub WritesMade : {T E : Type 0} → ℕ → ℕ → ℕ → List (List ℕ) → List (Option (List ℕ)) → ℕ → Option FileMap → Option FileMap → List ℕ → Result T E → Type 0
 WritesMade {T} {E} k unit n rows chunks count before now name (Ok done) =
     (object : List ℕ) × IsMade k unit n rows chunks count object × Told before now (HasFile name object)
 WritesMade {T} {E} k unit n rows chunks count before now name (Err why) = Told before now (λ old new. KeepsOthers old new name)
 
--- the same, where memory may run out before anything is written
+-- the same, but memory may run out before anything is written
 abbrev pub WritesMadeOrStops : {T : Type 0} → ℕ → ℕ → ℕ → List (List ℕ) → List (Option (List ℕ)) → ℕ → Option FileMap → Option FileMap → List ℕ → Result T Stop → Type 0
 WritesMadeOrStops {T} k unit n rows chunks count before now name (Ok done) =
     (object : List ℕ) × IsMade k unit n rows chunks count object × Told before now (HasFile name object)

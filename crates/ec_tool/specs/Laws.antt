@@ -25,8 +25,8 @@ use Rattle.ec_tool.specs.declared.request.Request.TheVariants.{Encode, Decode}
 use Rattle.ec_tool.specs.declared.fault.FileFault.{FileFault}
 use Rattle.ec_tool.specs.declared.fault.FileFault.TheVariants.{Missing, TooLong, Failed, NoMemory}
 
--- an answer tells of a file, which may be there, all that can be told: `Missing` comes exactly where it is not there,
--- `TooLong` exactly where it has more than `max_file` bytes, and `Ok` exactly with all bytes of another
+-- an answer says everything about a file that may be there: `Missing` comes exactly if it is not there, `TooLong` exactly if it
+-- has more than `max_file` bytes, and `Ok` exactly with all bytes of any other file
 pub record IsExact (file : Option (List ℕ)) (result : Result (List ℕ) FileFault) : Type 0 where
   pub missing : (result ≡ Err Missing) ↔ (file ≡ None)
   pub too_long : (result ≡ Err TooLong) ↔ IsSomeAnd file (λ bytes. max_file < length bytes)
@@ -37,7 +37,7 @@ AnswersAreExact =
     (file : Option (List ℕ)) (result : Result (List ℕ) FileFault)
     → AnswersFor file result → result ≢ Err Failed → result ≢ Err NoMemory → IsExact file result
 
--- after a write a file is found with its bytes, and each other one is found as before
+-- after a write a file is found with its bytes, and each other file is found as before
 abbrev pub WrittenFilesAreFound : Type 0
 WrittenFilesAreFound =
     (old : FileMap) (name bytes : List ℕ)
@@ -54,14 +54,14 @@ pub record AreListed (code : CodeRows) (bytes encoded : List ℕ) (written : Lis
   pub among : (i : ℕ) → i < length job.wanted → IsAmong encoded (slice_index job.wanted i)
   pub decide : DecideTheData code job.wanted
 
--- a file came back, with these bytes; or it is told that there are more of them than a file may have, by the name of the file or
--- of a file of its chunks, and no file changed
+-- a file came back, with these bytes; or it was refused as too long, by the name of the file or of a file of its chunks, and no
+-- file changed
 pub record ComesBack (job : Job) (files : FileMap) (bytes : List ℕ) (status : ℕ) (line : List ℕ) (now : Option FileMap) : Type 0 where
   pub whole : length bytes ≤ max_file → (status ≡ 0) × (line ≡ []) × (now ≡ Some (map.insert files job.name bytes))
   pub too_long : max_file < length bytes
       → (status ≡ 8) × ((name : List ℕ) × IsFileOf job name × (line ≡ too_long_line name)) × (now ≡ Some files)
 
--- what `encode` wrote of a file is decoded to that file, padded with zeros to whole stripes
+-- the chunk files that `encode` wrote of a file are decoded to that file, padded with zeros to whole stripes
 abbrev pub EncodedFilesComeBack : Type 0
 EncodedFilesComeBack =
     (code : CodeRows) (bytes encoded : List ℕ) (files : FileMap) (written : List Written) (job : Job) (status : ℕ) (line : List ℕ) (now : Option FileMap)
@@ -87,7 +87,7 @@ pub record RunComesBack (job : Job) (bytes : List ℕ) (run : Run) : Type 0 wher
   pub said : Appends run.said_before run.said_now line
   pub back : ComesBack job files (padded code.k job.unit bytes) run.status line run.now
 
--- a run of `decode` over the files that a run of `encode` left gives the file of that back, from positions that decide the data
+-- a run of `decode` over the files that a run of `encode` left gives the encoded file back, from positions that decide the data
 abbrev pub EncodedRunsComeBack : (List ℕ → Type 0) → Type 0
 EncodedRunsComeBack named =
     (words later : Words) (encoded listed : Coding) (one other : Run) (files : FileMap) (bytes : List ℕ) → Asks words (Encode encoded) → Asks later (Decode listed)
@@ -99,24 +99,24 @@ EncodedRunsComeBack named =
 abbrev pub WordsAskForOneThing : Type 0
 WordsAskForOneThing = (words : Words) (one other : Request) → Asks words one → Asks words other → AskTheSame one other
 
--- an accepted profile has one code: two codes of it are alike wherever they are looked at
+-- an accepted profile has one code: two codes of it are alike
 abbrev pub CodesAreOne : Type 0
 CodesAreOne = (p : Profile) (one other : CodeRows) → IsAccepted p → IsCodeOf p one → IsCodeOf p other → AreAlike one other
 
--- a text is refused by one fault, or gives one profile, and never both
+-- a text is refused with one fault, or gives one profile, and never both
 pub record ProfilesAreOne : Type 0 where
   pub refused : (text : List ℕ) (f g : ProfileFault) → IsRefused text f → IsRefused text g → f ≡ g
   pub given : (text : List ℕ) (p q : Profile) → GivesProfile text p → GivesProfile text q → p ≡ q
   pub either : (text : List ℕ) (f : ProfileFault) (p : Profile) → IsRefused text f → GivesProfile text p → ⊥
 
--- what `encode` comes to is one thing: the status, the line, and the files after
+-- the outcome of `encode` is determined: the status, the line, and the files after
 abbrev pub EncodedFilesAreOne : Type 0
 EncodedFilesAreOne =
     (one other : CodeRows) (job : Job) (files : FileMap) (status its_status : ℕ) (line its_line : List ℕ) (now its_now : Option FileMap)
     → AreAlike one other → 1 ≤ job.unit → Encodes one job (Some files) status line now → Encodes other job (Some files) its_status its_line its_now
     → (status ≡ its_status) × (line ≡ its_line) × (now ≡ its_now)
 
--- what `decode` comes to is one thing, of chunks of an object and of others
+-- the outcome of `decode` is determined, for chunks of an object and for others
 abbrev pub DecodedFilesAreOne : Type 0
 DecodedFilesAreOne =
     (one other : CodeRows) (job : Job) (files : FileMap) (status its_status : ℕ) (line its_line : List ℕ) (now its_now : Option FileMap)

@@ -1,5 +1,5 @@
--- What the commands come to: a status, a line, and the files. Source: this project.
--- `before` and `now` are the files, where they are told; `was` and `is` are the counts of their faults.
+-- The outcomes of the commands: a status, a line, and the files. Source: this project.
+-- `before` and `now` are the files, if they are told; `was` and `is` are the counts of their faults.
 use Rattle.std.specs.Prelude.{◌≡◌, ◌<◌, ◌⊎◌, ℕ, List, [], length, take, slice_index, Option}
 use Rattle.ec_model.specs.Codes.{CodeRows, IsCode}
 use Rattle.ec_code.specs.declared.profile.Profile.{Profile}
@@ -34,14 +34,14 @@ Fails name status line was is = (status ≡ 5) × (line ≡ failed_line name) ×
 abbrev pub EncodeUnread : Job → ℕ → List ℕ → Option FileMap → Option FileMap → ℕ → ℕ → Type 0
 EncodeUnread job status line before now was is = Fails job.name status line was is × (now ≡ before)
 
--- `encode` could not write the file of a wanted position: those of the positions before it are whole, that one may have any
--- bytes or be there or not, and all others are as they were
+-- `encode` could not write the file of a wanted position: the files of the positions before it are whole, that file may have any
+-- bytes or may not be there, and all others are as they were
 abbrev pub EncodeUnwritten : CodeRows → Job → ℕ → List ℕ → Option FileMap → Option FileMap → ℕ → ℕ → Type 0
 EncodeUnwritten code job status line before now was is =
     (count : ℕ) × (count < length job.wanted) × Fails (chunk_name job.name (slice_index job.wanted count)) status line was is
     × Told before now (λ old new. (whole : FileMap) × EncodesFirst code job count old whole × KeepsOthers whole new (chunk_name job.name (slice_index job.wanted count)))
 
--- memory ran out in `encode`: no file changed, or those of the first wanted positions are whole and all others are as they were
+-- memory ran out in `encode`: no file changed, or the files of some first wanted positions are whole and all others are as they were
 abbrev pub EncodeOut : CodeRows → Job → Option FileMap → Option FileMap → Type 0
 EncodeOut code job before now =
     (now ≡ before) ⊎ (AreBelow code.n job.wanted × ((count : ℕ) × (count < length job.wanted) × Told before now (EncodesFirst code job count)))
@@ -53,13 +53,13 @@ EncodeEnds code job status line before now was is =
     ⊎ (AreBelow code.n job.wanted × (EncodeUnread job status line before now was is ⊎ EncodeUnwritten code job status line before now was is))
     ⊎ (RunsOut status line × (is ≡ was) × EncodeOut code job before now)
 
--- `decode` could not read the file of a listed position: those of the positions before it can be read, and no file changed
+-- `decode` could not read the file of a listed position: the files of the positions before it can be read, and no file changed
 abbrev pub DecodeUnread : Job → ℕ → List ℕ → Option FileMap → Option FileMap → ℕ → ℕ → Type 0
 DecodeUnread job status line before now was is =
     (i : ℕ) × (i < length job.wanted) × Fails (chunk_name job.name (slice_index job.wanted i)) status line was is
     × WhereTold before (λ files. AreReadable files job.name (take i job.wanted)) × (now ≡ before)
 
--- `decode` could not write its file, which may have any bytes or be there or not; all others are as they were
+-- `decode` could not write its file: it may have any bytes or may not be there, and all others are as they were
 abbrev pub DecodeUnwritten : CodeRows → Job → ℕ → List ℕ → Option FileMap → Option FileMap → ℕ → ℕ → Type 0
 DecodeUnwritten code job status line before now was is =
     Fails job.name status line was is × Told before now (λ old new. CanDecode code job old × KeepsOthers old new job.name)

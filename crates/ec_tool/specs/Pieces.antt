@@ -1,4 +1,4 @@
--- A position's chunks that are made and written piece after piece. Source: this project.
+-- A position's chunks; they are made and written piece after piece. Source: this project.
 use Rattle.std.specs.Prelude.{◌≡◌, ◌<◌, ◌*◌, ◌+◌, ℕ, List, length, slice_index, Option, Result, Ok, Err}
 use Rattle.std.specs.FinMap as map
 use Rattle.ec_model.specs.Codes.{CodeRows, IsPositionList}

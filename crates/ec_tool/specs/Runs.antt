@@ -1,4 +1,4 @@
--- What the commands come to, by their words and the files that are there. Source: this project.
+-- The outcomes of the commands, by their words and the files that are there. Source: this project.
 use Rattle.std.specs.Prelude.{◌≡◌, ◌<◌, ◌≤◌, ◌*◌, ◌-◌, ◌%◌, ◌⊎◌, ⊤, ℕ, List, [], ◌∷◌, ◌++◌, length, take, slice_index, codes, bytes_eq, if◌then◌else◌, Option, Some, None}
 use Rattle.std.specs.List.{flat_map}
 use Rattle.std.specs.FinMap as map
@@ -32,11 +32,11 @@ parameters_text code parameters = flat_map (parameter_line code) (shown_paramete
 abbrev pub size_text : CodeRows → ℕ → List ℕ
 size_text code size = number_line (chunk_size_of code.lead size)
 
--- a command stopped: its status, the line that it says, and the files, of which none changed
+-- a command stopped: its status and the line that it says; no file changed
 abbrev pub Stops : ℕ → List ℕ → ℕ → List ℕ → Option FileMap → Option FileMap → Type 0
 Stops its_status its_line status line before now = (status ≡ its_status) × (line ≡ its_line) × (now ≡ before)
 
--- what is told of files, where they are told
+-- a property of the files, if they are told
 abbrev pub WhereTold : Option FileMap → (FileMap → Type 0) → Type 0
 WhereTold (Some files) so = so files
 WhereTold None so = ⊤
@@ -45,7 +45,7 @@ WhereTold None so = ⊤
 abbrev pub IsChunkFileOf : Job → List ℕ → Type 0
 IsChunkFileOf job name = (i : ℕ) × ((i < length job.wanted) × (name ≡ chunk_name job.name (slice_index job.wanted i)))
 
--- a file of a job: the file itself, or that of a wanted position's chunks
+-- a file of a job: the file itself, or the file of a wanted position's chunks
 abbrev pub IsFileOf : Job → List ℕ → Type 0
 IsFileOf job name = (name ≡ job.name) ⊎ IsChunkFileOf job name
 
@@ -53,13 +53,13 @@ IsFileOf job name = (name ≡ job.name) ⊎ IsChunkFileOf job name
 abbrev pub Answers : ℕ → List ℕ → ℕ → List ℕ → Type 0
 Answers its_status its_line status line = (status ≡ its_status) × (line ≡ its_line)
 
--- what `encode` of wanted positions that are all of the code's may answer, whether files are told or not: it is done, or the
--- file is not there, or it is too long
+-- the answers of `encode` if all wanted positions are the code's, whether files are told or not: it is done, or the file is not
+-- there, or the file is too long
 abbrev pub EncodeAnswers : Job → ℕ → List ℕ → Type 0
 EncodeAnswers job status line = Answers 0 [] status line ⊎ Answers 4 (missing_line job.name) status line ⊎ Answers 8 (too_long_line job.name) status line
 
--- what `decode` of listed positions that are all of the code's and decide its data may answer, whether files are told or not: it
--- is done, or a chunk file is not there, or their lengths are wrong, or a chunk file or the file itself is too long
+-- the answers of `decode` if all listed positions are the code's and decide its data, whether files are told or not: it is done, or
+-- a chunk file is not there, or their lengths are wrong, or a chunk file or the file itself is too long
 abbrev pub DecodeAnswers : Job → ℕ → List ℕ → Type 0
 DecodeAnswers job status line =
     Answers 0 [] status line
@@ -67,7 +67,7 @@ DecodeAnswers job status line =
     ⊎ Answers 7 lengths_line status line
     ⊎ ((name : List ℕ) × IsFileOf job name × Answers 8 (too_long_line name) status line)
 
--- `encode` of wanted positions that are all of the code's, by the file that is read
+-- `encode` if all wanted positions are the code's, by the file that is read
 pub record EncodesFiles (code : CodeRows) (job : Job) (status : ℕ) (line : List ℕ) (now : Option FileMap) (files : FileMap) : Type 0 where
   pub missing : map.get files job.name ≡ None → Stops 4 (missing_line job.name) status line (Some files) now
   pub too_long : (bytes : List ℕ) → map.get files job.name ≡ Some bytes → max_file < length bytes → Stops 8 (too_long_line job.name) status line (Some files) now
@@ -75,8 +75,8 @@ pub record EncodesFiles (code : CodeRows) (job : Job) (status : ℕ) (line : Lis
       → (status ≡ 0) × (line ≡ []) × ((written : List Written)
       × AreChunkFiles code job.unit job.name bytes job.wanted written × (now ≡ Some (after files written)))
 
--- `encode`: a position that is none of the code's, then the file that is read, and then the chunks of each wanted position.
--- `before` and `now` are the files, where they are told
+-- `encode`: a position that is not one of the code's, then the file that is read, and then the chunks of each wanted position.
+-- `before` and `now` are the files, if they are told
 pub record Encodes (code : CodeRows) (job : Job) (before : Option FileMap) (status : ℕ) (line : List ℕ) (now : Option FileMap) : Type 0 where
   pub outside : (AreBelow code.n job.wanted → ⊥) → Stops 2 usage_line status line before now
   pub only_outside : status ≡ 2 → AreBelow code.n job.wanted → ⊥
@@ -93,8 +93,8 @@ pub record EncodesFirst (code : CodeRows) (job : Job) (count : ℕ) (files now :
   pub are : AreChunkFiles code job.unit job.name bytes (take count job.wanted) written
   pub left : now ≡ after files written
 
--- `decode` of listed positions that are all of the code's and decide its data, by the files that are read in turn: then their
--- lengths, and then the length of what is decoded
+-- `decode` if all listed positions are the code's and decide its data: the files that are read in turn, then their lengths, and
+-- then the length of the decoded file
 pub record DecodesFiles (code : CodeRows) (job : Job) (status : ℕ) (line : List ℕ) (now : Option FileMap) (files : FileMap) : Type 0 where
   pub missing : (i : ℕ) → i < length job.wanted → AreReadable files job.name (take i job.wanted)
       → map.get files (chunk_name job.name (slice_index job.wanted i)) ≡ None
@@ -119,7 +119,7 @@ pub record CanDecode (code : CodeRows) (job : Job) (files : FileMap) : Type 0 wh
   pub lengths : HaveLength files job.name job.wanted long
   pub short : code.k * long ≤ max_file
 
--- `decode`: a position that is none of the code's, then whether the listed ones decide the data, and then the files
+-- `decode`: a position that is not one of the code's, then whether the listed positions decide the data, and then the files
 pub record Decodes (code : CodeRows) (job : Job) (before : Option FileMap) (status : ℕ) (line : List ℕ) (now : Option FileMap) : Type 0 where
   pub outside : (AreBelow code.n job.wanted → ⊥) → Stops 2 usage_line status line before now
   pub only_outside : status ≡ 2 → AreBelow code.n job.wanted → ⊥

@@ -24,7 +24,7 @@ AskTheSame _ _ = ⊥
 abbrev pub HoldBytes : FileMap → Type 0
 HoldBytes files = (name held : List ℕ) → map.get files name ≡ Some held → All (λ b. b < 2 ^ 8) held
 
--- a run ended by what was asked for: the files and the output didn't fail, and memory didn't run out
+-- a run came to its own end: the files and the output did not fail, and memory did not run out
 pub record IsUndisturbed (run : Run) : Type 0 where
   pub files : run.status ≢ 5
   pub output : run.status ≢ 9

@@ -19,7 +19,7 @@ status_of Lengths = 7
 status_of (TooLong name) = 8
 status_of NoMemory = 13
 
--- the line that it says; none where memory ran out
+-- the line that it says; none if memory ran out
 abbrev pub line_of : Stop → List ℕ
 line_of Usage = usage_line
 line_of (Profile fault) = fault_line fault
@@ -30,7 +30,7 @@ line_of Lengths = lengths_line
 line_of (TooLong name) = too_long_line (string_bytes name)
 line_of NoMemory = []
 
--- the status of what a command came to, and the line that it says where it did what it was asked for without saying anything
+-- the status of a command's outcome, and its line; a command that says nothing has no line if it did what it was asked for
 abbrev pub status_after : {T : Type 0} → Result T Stop → ℕ
 status_after {T} (Ok done) = 0
 status_after {T} (Err stop) = status_of stop
@@ -39,7 +39,7 @@ abbrev pub line_after : {T : Type 0} → Result T Stop → List ℕ
 line_after {T} (Ok done) = []
 line_after {T} (Err stop) = line_of stop
 
--- the line of what a command shows, or of why it stopped
+-- the line that a command shows, or the line of the reason why it stopped
 abbrev pub shown_after : Result (List ℕ) Stop → List ℕ
 shown_after (Ok text) = text
 shown_after (Err stop) = line_of stop
@@ -50,7 +50,7 @@ StopsByJob job (Profile f) = IsRefusedJob job f
 StopsByJob job NoMemory = ⊤
 StopsByJob job _ = ⊥
 
--- the reason to stop where a profile can't be opened
+-- the reason to stop if a profile cannot be opened
 abbrev pub stop_of_registry : RegFault → Stop
 stop_of_registry (reg.Profile f) = Profile f
 stop_of_registry reg.NoMemory = NoMemory

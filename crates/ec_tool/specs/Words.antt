@@ -9,7 +9,7 @@ use Rattle.ec_words.specs.Numbers.{IsNumberText}
 abbrev pub Words : Type 0
 Words = List (String Global)
 
--- their bytes
+-- the bytes of the words
 abbrev pub texts_of : Words → List (List ℕ)
 texts_of words = map string_bytes words
 
@@ -40,7 +40,7 @@ pub record AskValidate (words : Words) (profile : List ℕ) (parameters : List (
   pub are : texts_of words ≡ codes "validate-profile" ∷ profile ∷ parameters
   pub known : All IsParameter parameters
 
--- the bytes of the largest object whose chunks can be asked for
+-- the number of bytes of the largest object whose chunk size can be asked for
 abbrev pub max_size : ℕ
 max_size = 2 ^ 40
 
@@ -51,7 +51,7 @@ pub record AskSize (words : Words) (profile : List ℕ) (size : ℕ) : Type 0 wh
   pub spelled : IsNumberText text size
   pub within : size ≤ max_size
 
--- what files are to be coded: by the code of a profile, in stripes of units of these bytes, the chunks of some positions
+-- a job: the chunks of some positions, by the code of a profile, in stripes of units of these bytes
 pub record Job : Type 0 where
   pub profile : List ℕ
   pub unit : ℕ

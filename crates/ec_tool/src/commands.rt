@@ -1,4 +1,4 @@
-//! The commands of the tool, once the words are read.
+//! The commands of the tool, after the words were read.
 ghost use Rattle.std.specs.Prelude.{◌≡◌, ◌<◌, ◌≤◌, ◌↔◌, ◌⊎◌, ℕ, IfOk, IfErr, IsTrue, length, slice_index_or};
 ghost use Rattle.ec_code.specs.Bounds.{IsUnit};
 ghost use Rattle.ec_code.specs.Profiles.{name_of};
@@ -22,7 +22,7 @@ use ec_words::Bytes;
 use plugin_reg::{Opened, open_profile};
 use std::alloc::Global;
 
-/// Numbers of a profile's code, a line each.
+/// Numbers of a profile's code, each on a line.
 pub fn validate(
     alloc: Global,
     profile: &str,
@@ -98,7 +98,7 @@ pub fn encode<F: Files>(
     encode_file(alloc, job, codes[opened.index].as_ref(), files)
 }
 
-/// Writes the file that the chunks of the listed positions are of.
+/// Writes the file to which the chunks of the listed positions belong.
 pub fn decode<F: Files>(
     alloc: Global,
     job: &Coding,

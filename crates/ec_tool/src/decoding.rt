@@ -29,7 +29,7 @@ use read_plan::plan;
 use std::alloc::Global;
 use stripe_map::{Chunks, data_rows};
 
-/// Writes the file that the chunks of the listed positions are of.
+/// Writes the file to which the chunks of the listed positions belong.
 pub fn decode_file<F: Files>(
     alloc: Global,
     job: &Coding,
@@ -55,7 +55,7 @@ pub fn decode_file<F: Files>(
     )
 }
 
-// Writes the file that the chunks of the listed positions are of, all of which are the code's.
+// Writes the file to which the chunks of the listed positions belong. All listed positions are the code's.
 fn decode_listed<F: Files>(
     alloc: Global,
     job: &Coding,
@@ -94,7 +94,7 @@ fn decode_listed<F: Files>(
     )
 }
 
-// The set of the listed positions that is read: none where they do not decide the data.
+// The set of the listed positions that is read; none if they do not decide the data.
 fn read_set(code: &dyn Code, listed: &[u8]) -> Option<Mask>
     requires { AreBelow (meaning code.now).n listed.now }
     ensures some { IfSome result (λ set. IsReadPlan (meaning code.now) listed.now set.0) }
@@ -120,7 +120,7 @@ fn data_set(code: &dyn Code) -> Mask
     Mask(bits)
 }
 
-// The chunks of each listed position, from a file of their own each.
+// The chunks of each listed position, each position's from a file of its own.
 fn read_chunks<F: Files>(
     alloc: Global,
     name: &str,
@@ -172,7 +172,7 @@ fn first_length(listed: &[u8], chunks: &Chunks) -> usize
     }
 }
 
-// Whether the chunks make a file: all have one length, which is that of whole units, and the file is not too long.
+// Whether the chunks make a file: all have one length, it is that of whole units, and the file is not too long.
 fn check_lengths(
     alloc: Global,
     name: &str,

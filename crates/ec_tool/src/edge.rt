@@ -1,5 +1,5 @@
-//! Real files ([`DiskFiles`]). It tells no files, so what it reads and writes is tested and trusted, and its count of
-//! faults is proved.
+//! Real files ([`DiskFiles`]). It does not tell its files, so what it reads and writes is tested and trusted. Its count of faults
+//! is proved.
 ghost use Rattle.std.specs.Prelude.{◌≡◌, ◌≤◌, Option, None, length, IfOk};
 ghost use Rattle.rig_disk.specs.Faults.{HasCause};
 
@@ -21,7 +21,7 @@ pub struct DiskFiles<T: Runtime> {
 }
 
 impl<T: Runtime> DiskFiles<T> {
-    /// The files as they are. It touches none.
+    /// The files as they are. It touches no file.
     pub fn new(rt: T) -> DiskFiles<T>
         ensures { ⟦<DiskFiles<T> as Files>⟧.faults result ≡ 0 }
     {
@@ -99,7 +99,7 @@ fn read_opened<F: Read + OpenFile + Drop>(
     }
 }
 
-/// Reads to the end, in memory that is taken for `room` bytes, and gives up where there are more than [`MAX_FILE`]: a file may
+/// Reads to the end, in memory that is taken for `room` bytes, and gives up if there are more than [`MAX_FILE`]: a file may
 /// have grown since its length was looked at. An interrupted read is tried again.
 pub fn read_pieces<F: Read + Drop>(
     mut file: F,
@@ -149,7 +149,7 @@ fn append(list: &mut Vec<u8>, piece: &[u8]) -> Result<(), FileFault>
     Ok(())
 }
 
-// A failure may leave a part.
+// A failure may leave a part of the bytes.
 fn write_whole<T: Runtime>(rt: &T, name: &str, bytes: &[u8]) -> io::Result<()> {
     let mut file = fs::create(rt, name)?;
     file.write_all(bytes)

@@ -1,4 +1,4 @@
-//! The command `encode`: the chunks of a file, each position's in a file of its own.
+//! The command `encode`: the chunks of a file; each position has a file of its own.
 ghost use Rattle.std.specs.Prelude.{◌≡◌, ◌≢◌, ◌≤◌, ◌<◌, ◌*◌, ◌/◌, length, take, drop, IfOk};
 ghost use Rattle.ec_code.specs.Bounds.{IsUnit};
 ghost use Rattle.ec_model.specs.Codes.{IsCode};
@@ -63,8 +63,8 @@ fn padded(g: Geometry, bytes: Bytes) -> Result<Vec<u8>, NoMemory>
     Ok(whole)
 }
 
-// Writes the chunks of some positions of whole stripes, one file after another, by the memory of a piece. So no memory is taken
-// while a file is written.
+// Writes the chunks of some positions of whole stripes, one file after another. They are made in the memory of a piece, so no
+// memory is taken while a file is written.
 fn write_chunks<F: Files>(
     alloc: Global,
     name: &str,
@@ -89,7 +89,7 @@ fn write_chunks<F: Files>(
     Ok(())
 }
 
-// The stripes whose chunks at one position are a piece.
+// The number of stripes whose chunks at one position are a piece.
 fn stripes_of_piece(g: Geometry) -> usize
     ensures value { result ≡ PIECE / g.unit }
     ensures some { 1 ≤ result }
@@ -168,7 +168,7 @@ fn row_of(code: &dyn Code, p: u8) -> [u8; 16]
     row
 }
 
-// At most `size` bytes of a file, those from `at` on.
+// At most `size` bytes of a file, from `at` on.
 fn part(bytes: &[u8], at: usize, size: usize) -> &[u8]
     requires { at ≤ length bytes.now }
     ensures { result.now ≡ take size (drop at bytes.now) }
@@ -177,7 +177,7 @@ fn part(bytes: &[u8], at: usize, size: usize) -> &[u8]
     &rest[..size.min(rest.len())]
 }
 
-// Makes a piece, that of `count` stripes, and writes it as the first one of a file, or behind those before it.
+// Makes a piece of `count` stripes, and writes it as the first piece of a file, or behind those before it.
 fn write_piece<F: Files>(
     file: &str,
     first: bool,

@@ -1,4 +1,4 @@
-//! Files, read whole, and written whole or piece after piece.
+//! Files that are read whole, and written whole or piece after piece.
 ghost use Rattle.std.specs.Prelude.{◌≡◌, ◌≤◌, ℕ, List, Option, length, IfOk};
 ghost use Rattle.rig_disk.specs.Faults.{HasCause};
 ghost use Rattle.ec_tool.specs.Files.{Appends, FileMap, HasReadCause, Reads, Writes};
@@ -8,9 +8,9 @@ use ec_words::Bytes;
 use rig_disk::Failed;
 use std::alloc::Global;
 
-/// Files by their names, read whole, and written whole or piece after piece.
+/// Files by their names. They are read whole, and written whole or piece after piece.
 pub trait Files {
-    /// The files with their bytes, where the implementor tells them.
+    /// The files with their bytes, if the implementor tells them.
     ghost files: { Self → Option FileMap };
 
     /// How often a call has failed. It is always told.
@@ -24,14 +24,14 @@ pub trait Files {
         ensures kept { files self.new ≡ files self.old }
         ensures cause { HasReadCause (faults self.old) (faults self.new) result };
 
-    /// Makes these the bytes of a file, which need not be there. After `Failed` that file may have any bytes, or be
-    /// there or not; all others stay.
+    /// Makes these the bytes of a file; the file need not be there. After `Failed` that file may have any bytes or may not
+    /// be there; all others stay.
     fn write_file(&mut self, name: &str, bytes: &[u8]) -> Result<(), Failed>
         ensures written { Writes (files self.old) (files self.new) name.now bytes.now result }
         ensures cause { HasCause (faults self.old) (faults self.new) result };
 
-    /// Adds bytes at the end of a file, which has none before where it is not there. After `Failed` that file may have any
-    /// bytes, or be there or not; all others stay.
+    /// Adds bytes at the end of a file. A file that is not there counts as empty. After `Failed` that file may have any bytes or
+    /// may not be there; all others stay.
     fn append_file(&mut self, name: &str, bytes: &[u8]) -> Result<(), Failed>
         ensures written { Appends (files self.old) (files self.new) name.now bytes.now result }
         ensures cause { HasCause (faults self.old) (faults self.new) result };

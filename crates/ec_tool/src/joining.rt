@@ -1,5 +1,5 @@
-//! The file that the chunks of some positions make, made and written piece after piece. A piece has as many whole stripes as stay
-//! in the cache.
+//! The file that the chunks of some positions make. It is made and written piece after piece. A piece has as many whole stripes as
+//! stay in the cache.
 ghost use Rattle.std.specs.Prelude.{◌≡◌, ◌≢◌, ◌<◌, ◌≤◌, ◌+◌, ◌*◌, length};
 ghost use Rattle.std.specs.Option.{option_copied};
 ghost use Rattle.rig_disk.specs.Faults.{HasCause, Rose};
@@ -55,7 +55,7 @@ fn stripes_of_piece(g: Geometry) -> usize
     (PIECE / (g.k as usize * g.unit as usize)).max(1)
 }
 
-// Writes the file in pieces of `per` stripes. There is always a first one, so that a file without stripes is written too.
+// Writes the file in pieces of `per` stripes. There is always a first piece, so that a file without stripes is written too.
 fn write_pieces<F: Files>(
     name: &str,
     rows: &[[u8; 16]; 16],
@@ -99,7 +99,7 @@ fn write_pieces<F: Files>(
     Ok(())
 }
 
-// Writes the stripes from one on, which are made in the memory that the next ones have again.
+// Writes a piece, from one stripe on. The next piece is made in the same memory.
 fn write_piece<F: Files>(
     name: &str,
     rows: &[[u8; 16]; 16],
@@ -128,7 +128,7 @@ fn write_piece<F: Files>(
     put(name, first, &piece[..size], files)
 }
 
-// Makes the stripes from one on: zeros, and then what each position's chunks add.
+// Makes the stripes from one on: zeros, and then the part that each position's chunks add.
 fn make_stripes(
     rows: &[[u8; 16]; 16],
     g: Geometry,
@@ -154,7 +154,7 @@ fn make_stripes(
     }
 }
 
-// Adds what a position's chunks make of the stripes from one on, where they are there.
+// Adds the part of the stripes from one on that a position's chunks make, if they are there.
 fn add_stripes(
     rows: &[[u8; 16]; 16],
     g: Geometry,

@@ -1,4 +1,4 @@
-//! Laws about files, for every caller: functions that do nothing and whose contract is the law.
+//! Laws about files, for every caller. Each is the contract of a function that does nothing.
 ghost use Rattle.std.specs.Prelude.{◌≡◌, ◌<◌, ℕ, length, slice_index_or};
 ghost use Rattle.ec_tool.specs.Laws.{AnswersAreExact, WrittenFilesAreFound, EncodedFilesComeBack, EncodedRunsComeBack, WordsAskForOneThing, ProfilesAreOne, CodesAreOne, EncodedFilesAreOne, DecodedFilesAreOne, OutcomesAreOne};
 
@@ -6,7 +6,7 @@ use ec_code::Code;
 use lrc_layers::layers_have_one_code;
 use read_plan::least_plan_is_one;
 
-/// An answer that is neither `Failed` nor `NoMemory` comes exactly where the file is as the answer says.
+/// An answer that is neither `Failed` nor `NoMemory` comes exactly if the file is as the answer says.
 pub fn answers_are_exact()
     ensures { AnswersAreExact }
 {}
@@ -16,7 +16,8 @@ pub fn written_files_are_found()
     ensures { WrittenFilesAreFound }
 {}
 
-/// What `encode` wrote of a file is decoded to that file, padded with zeros, from each list of its positions that decides the data.
+/// The chunk files that `encode` wrote of a file are decoded to that file, padded with zeros, from each list of positions that
+/// decides the data.
 pub fn encoded_files_come_back()
     ensures { EncodedFilesComeBack }
 {}
@@ -33,7 +34,7 @@ pub fn words_ask_for_one_thing()
     ensures { WordsAskForOneThing }
 {}
 
-/// A text is refused by one fault, or gives one profile.
+/// A text is refused with one fault, or gives one profile.
 pub fn profiles_are_one()
     ensures { ProfilesAreOne }
 {}
@@ -45,19 +46,20 @@ pub fn codes_are_one()
     layers_have_one_code()
 }
 
-/// What `encode` comes to over told files is one thing.
+/// The outcome of `encode` over told files is determined.
 pub fn encoded_files_are_one()
     ensures { EncodedFilesAreOne }
 {}
 
-/// What `decode` comes to over told files is one thing.
+/// The outcome of `decode` over told files is determined.
 pub fn decoded_files_are_one()
     ensures { DecodedFilesAreOne }
 {
     least_plan_is_one()
 }
 
-/// Two runs of the same words, by boxes of these names and over the same told files, end alike, but for failures and want of memory.
+/// Two runs of the same words, by boxes of these names and over the same told files, end alike, except for failures and want of
+/// memory.
 pub fn outcomes_are_one(codes: &[Box<dyn Code>])
     ensures { OutcomesAreOne (λ name. (i : ℕ) × (i < length codes.now) × ((d : _) → plugin_name (slice_index_or codes.now i d) ≡ name)) }
 {

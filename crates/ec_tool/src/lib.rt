@@ -1,10 +1,10 @@
 //! The command line of erasure codes over files, as the program `ceph_ec_tool` has it.
 //!
-//! Headline: a run of [`tool`] does what its words ask for, over the files that are there: `encode` writes for each wanted
-//! position exactly its chunks, and `decode` the file that the chunks of the least deciding set among the listed positions are
-//! of. A refusal or a failure ends with the status and the line of the first fault, in one order. What [`Files`] reads is all of
-//! a file, a refusal of it has its cause, and a write changes no other file, where the implementor tells its files. A call fails
-//! only where the count of faults rose. [`MemFiles`] tells all and fails where a test plans it; [`DiskFiles`] is the real one,
+//! Headline: a run of [`tool`] does what its words ask for, over the files that are there. `encode` writes for each wanted
+//! position exactly its chunks. `decode` writes the file to which the chunks of the least deciding set among the listed positions
+//! belong. A refusal or a failure ends with the status and the line of the first fault, in one order. If the implementor of
+//! [`Files`] tells its files, a read gives all of a file, a refusal has its cause, and a write changes no other file. A call fails
+//! only if the count of faults rose. [`MemFiles`] tells everything and fails when a test plans it. [`DiskFiles`] is the real one,
 //! and tells no files.
 #![tactic(auto)]
 

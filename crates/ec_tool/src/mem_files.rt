@@ -1,4 +1,4 @@
-//! Files in memory for tests, which tell all and fail where it is planned.
+//! Files in memory, for tests. They tell everything, and fail when it is planned.
 ghost use Rattle.std.specs.Prelude.{◌≡◌, ◌≤◌, ◌↔◌, ◌-◌, ◌++◌, Option, Some, Err, length, IfOk, OnOk, OnErr, IsErr, option_copied};
 ghost use Rattle.std.specs.FinMap as map;
 
@@ -8,7 +8,7 @@ use rig_disk::Failed;
 use std::alloc::Global;
 use std::collections::BTreeMap;
 
-/// Files in memory. A failed call of it changes no file.
+/// Files in memory. A failed call changes no file.
 #[derive(Drop)]
 pub struct MemFiles {
     alloc: Global,
@@ -22,7 +22,7 @@ impl MemFiles {
     ghost use Rattle.stripe_map.specs.Decoding.{bytes_of};
     ghost use Rattle.ec_tool.specs.MemFiles.{IsNew, files_of, faults_of, planned_of};
 
-    /// No files, no fault, and none planned.
+    /// It has no files, no fault, and no planned fault.
     pub fn new(alloc: Global) -> Result<MemFiles, NoMemory>
         ensures { IfOk result IsNew }
     {
@@ -34,7 +34,7 @@ impl MemFiles {
         })
     }
 
-    /// Makes these the bytes of a file. It is no call of the trait, and counts as none.
+    /// Makes these the bytes of a file. It is no call of the trait, and is not counted as one.
     pub fn put(&mut self, name: &str, bytes: Bytes) -> Result<(), NoMemory>
         ensures ok { OnOk result (files_of self.new ≡ map.insert (files_of self.old) name.now bytes) }
         ensures unchanged { OnErr result (files_of self.new ≡ files_of self.old) }
@@ -46,7 +46,7 @@ impl MemFiles {
         Ok(())
     }
 
-    /// Lets the `nth` further call of the trait fail, from 1, in place of one that was planned before. 0 plans none.
+    /// Lets the `nth` further call of the trait fail, from 1, in place of a call that was planned before. 0 plans no failure.
     pub fn fail_at(&mut self, nth: u64)
         ensures planned { planned_of self.new ≡ nth }
         ensures files { files_of self.new ≡ files_of self.old }
@@ -65,7 +65,7 @@ impl MemFiles {
         }
     }
 
-    // Counts a call of the trait, and fails where it is the planned one.
+    // Counts a call of the trait, and fails if it is the planned one.
     fn count_call(&mut self) -> Result<(), Failed>
         ensures planned { IsErr result ↔ (planned_of self.old ≡ 1) }
         ensures counted { planned_of self.new ≡ planned_of self.old - 1 }
@@ -102,7 +102,7 @@ impl MemFiles {
         self.put(name, Bytes::of(whole))
     }
 
-    // The bytes of a file, and none where it is not there.
+    // The bytes of a file; empty if it is not there.
     fn copy_of(&self, name: &str) -> Result<Vec<u8>, NoMemory>
         ensures { IfOk result (λ copy. copy.items ≡ bytes_of (map.get (files_of self.now) name.now)) }
     {

@@ -1,4 +1,4 @@
-//! Files of chunks: the chunks of position P of a file are in the file of its name, a point and P.
+//! Files of chunks: the chunks of position P of a file are in the file whose name is the file's name, a point and P.
 ghost use Rattle.std.specs.Prelude.{◌≡◌, IfOk, string_bytes};
 ghost use Rattle.ec_tool.specs.Chunks.{chunk_name};
 

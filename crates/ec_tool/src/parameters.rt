@@ -11,7 +11,7 @@ use ec_words::{Bytes, NoMemory};
 use std::alloc::Global;
 use stripe_map::chunk_size;
 
-/// A line for each of these parameters, or for all three where there are none.
+/// A line for each of these parameters, or for all three if the list is empty.
 pub fn parameters_text(
     alloc: Global,
     code: &dyn Code,

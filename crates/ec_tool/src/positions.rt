@@ -1,4 +1,4 @@
-//! The wanted positions, once the code is known.
+//! The wanted positions, after the code is known.
 ghost use Rattle.std.specs.Prelude.{◌≡◌, ◌≤◌, ◌⊎◌, ℕ, IfOk, IfErr, length};
 ghost use Rattle.ec_tool.specs.Chunks.{AreBelow, IsSetOf};
 ghost use Rattle.ec_tool.specs.declared.stop.Stop.TheVariants.{Usage, NoMemory as OutOfMemory};

@@ -1,4 +1,4 @@
-//! The one call of the program `ceph_ec_tool`: all that it does, but for its real files and output.
+//! The one call of the program `ceph_ec_tool`: everything that it does, except for its real files and output.
 ghost use Rattle.std.specs.Prelude.{◌≡◌, ◌≢◌, ◌<◌, ◌⊎◌, ◌∷◌, [], ℕ, length, slice_index_or};
 ghost use Rattle.std.specs.Io.KnownBytes.{Appends};
 ghost use Rattle.rig_disk.specs.Faults.{Rose};
@@ -18,12 +18,12 @@ use plugin_reg::has_box;
 use rig_disk::{Rig, VOICE};
 use std::alloc::Global;
 
-/// How the program ends: the number is its exit status, which docs/TOOL.md explains.
+/// How the program ends: the number is its exit status. docs/TOOL.md explains it.
 #[derive(Clone, Copy, Debug, PartialEq, Eq)]
 pub struct ToolStatus(pub u8);
 
 /// Does what the words of the command line ask for, over these files and this rig's output. `codes` has a box of each plugin; the
-/// first of a profile's plugin becomes the profile's code. Of the rig only the output is used.
+/// first box of a profile's plugin becomes the profile's code. Only the output of the rig is used.
 pub fn tool<F: Files, R: Rig>(
     alloc: Global,
     words: &[String],
@@ -54,7 +54,7 @@ pub fn tool<F: Files, R: Rig>(
     ensures silent { result.0 ≡ 13 → Appends (R.said rig.old) (R.said rig.new) [] }
     ensures quiet_voice { result.0 ≢ 9 → R.faults rig.new VOICE ≡ R.faults rig.old VOICE }
 
-    // No slot's count ever changes. The boxes go by their names.
+    // No slot's count ever changes. The boxes keep their names.
     ensures slots { (slot : ℕ) → slot ≢ VOICE → R.faults rig.new slot ≡ R.faults rig.old slot }
     ensures boxes { length codes.new.items ≡ length codes.old.items }
     ensures kept { (j : ℕ) (d : _) → plugin_name (slice_index_or codes.new.items j d) ≡ plugin_name (slice_index_or codes.old.items j d) }

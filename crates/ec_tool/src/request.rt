@@ -1,7 +1,7 @@
 //! What the words ask for.
 
-/// What files are to be coded: by the code of a profile, in stripes of units of `unit` bytes, the chunks of some positions.
-/// `name` is the file; the chunks of position P are in `name.P`.
+/// A job: the chunks of some positions, by the code of a profile, in stripes of units of `unit` bytes. `name` is the file; the
+/// chunks of position P are in `name.P`.
 #[derive(Drop)]
 pub struct Coding<'a> {
     pub profile: &'a str,

@@ -10,7 +10,7 @@ use ec_words::Bytes;
 use rig_disk::{Rig, VOICE};
 use std::alloc::Global;
 
-/// Says a last line and ends with this status, or with that of a failed output.
+/// Says a last line and ends with this status, or with the status of a failed output.
 pub fn say<R: Rig>(rig: &mut R, line: &[u8], status: u8) -> ToolStatus
     requires failed { status ≢ 9 }
     requires out { status ≢ 13 }
@@ -41,7 +41,7 @@ fn say_stop<R: Rig>(alloc: Global, stop: &Stop, rig: &mut R) -> ToolStatus
     }
 }
 
-/// Ends a command that says nothing where it did what was asked for.
+/// Ends a command that says nothing if it did what was asked for.
 pub fn end<R: Rig>(alloc: Global, ended: &Result<(), Stop>, rig: &mut R) -> ToolStatus
     ensures ends { EndsWith (status_after ended.now) (line_after ended.now) (R.said rig.old) (R.said rig.new) result.0 }
     ensures voice { result.0 ≡ 9 → Rose (R.faults rig.old VOICE) (R.faults rig.new VOICE) }

@@ -1,4 +1,4 @@
-//! Why a command stops without what it was asked for.
+//! Why a command stops before it did what it was asked for.
 ghost use Rattle.std.specs.Prelude.{◌≡◌};
 ghost use Rattle.ec_tool.specs.declared.stop.Stop.TheVariants.{NoMemory as OutOfMemory};
 
@@ -6,10 +6,10 @@ use ec_code::ProfileFault;
 use ec_words::NoMemory;
 use std::alloc::{AllocError, AllocFailed};
 
-/// Why a command stops without what it was asked for.
+/// Why a command stops before it did what it was asked for.
 #[derive(Drop)]
 pub enum Stop {
-    /// The words are no command, or a wanted position is none of the code's.
+    /// The words are no command, or a wanted position is not one of the code's.
     Usage,
     /// The profile is refused.
     Profile(ProfileFault),
@@ -19,7 +19,7 @@ pub enum Stop {
     Failed(String),
     /// The listed positions do not decide the data.
     NotDecided,
-    /// The files of chunks differ in length, or are no whole chunks.
+    /// The files of chunks differ in length, or their length is not that of whole chunks.
     Lengths,
     /// The file of this name has, or would have, too many bytes.
     TooLong(String),

@@ -26,7 +26,7 @@ impl Stop {
         }
     }
 
-    /// The line that is said; none where memory ran out.
+    /// The line that is said; none if memory ran out.
     pub fn line(&self, alloc: Global) -> Result<Bytes, NoMemory>
         ensures { IfOk result (λ line. line ≡ line_of self.now) }
     {

@@ -6,7 +6,7 @@ ghost use Rattle.ec_tool.specs.Words.{AreDistinct, IsList, comma_pieces};
 use ec_words::{NoMemory, read_u64};
 use std::alloc::Global;
 
-/// The positions that a text lists, in its order. `None` where it is no such list.
+/// The positions that a text lists, in its order. `None` if it is no such list.
 pub fn read_wanted(alloc: Global, text: &[u8]) -> Result<Option<Vec<u64>>, NoMemory>
     ensures some { IfOk result (λ answer. IfSome answer (λ wanted. IsList text.now wanted.items)) }
     ensures none { IfOk result (λ answer. IfNone answer ((wanted : List ℕ) → IsList text.now wanted → ⊥)) }
@@ -29,7 +29,7 @@ fn comma_pieces(alloc: Global, text: &[u8]) -> Result<Vec<&[u8]>, NoMemory>
     Ok(pieces)
 }
 
-// The numbers that some texts are; none where one is no number.
+// The numbers that some texts are; none if one of them is no number.
 fn read_numbers(alloc: Global, texts: &[&[u8]]) -> Result<Option<Vec<u64>>, NoMemory>
     ensures some { IfOk result (λ answer. IfSome answer (λ numbers.
         AreNumbers (map (λ text. text.now) texts.now) numbers.items)) }

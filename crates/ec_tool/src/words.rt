@@ -10,10 +10,10 @@ use crate::wanted::read_wanted;
 use ec_words::{NoMemory, read_u64};
 use std::alloc::Global;
 
-// The bytes of the largest object whose chunks can be asked for: 1 TiB.
+// The number of bytes of the largest object whose chunk size can be asked for: 1 TiB.
 const MAX_SIZE: u64 = 1 << 40;
 
-/// What the words ask for; [`Request::Wrong`] exactly where they are no command.
+/// What the words ask for; [`Request::Wrong`] exactly if they are no command.
 pub fn requested<'a>(alloc: Global, words: &'a [String]) -> Result<Request<'a>, NoMemory>
     ensures { IfOk result (λ request. Asks words.now request) }
 {
@@ -77,7 +77,7 @@ fn size_request<'a>(arguments: &'a [String]) -> Request<'a>
     }
 }
 
-// The size that a text is; none where it is no number, or too large.
+// The size that a text is; none if it is no number, or too large.
 fn read_size(text: &[u8]) -> Option<u64>
     ensures some { IfSome result (λ size. IsNumberText text.now size × (size ≤ max_size)) }
     ensures none { IfNone result ((size : ℕ) → IsNumberText text.now size → size ≤ max_size → ⊥) }
@@ -108,7 +108,7 @@ fn decode_request<'a>(alloc: Global, arguments: &'a [String]) -> Result<Request<
     }
 }
 
-// What is to be coded, by the words after `encode` or `decode`; none where they are out of form.
+// The job, by the words after `encode` or `decode`; none if they do not have its form.
 fn read_coding<'a>(alloc: Global, arguments: &'a [String]) -> Result<Option<Coding<'a>>, NoMemory>
     ensures some { IfOk result (λ answer. IfSome answer (λ coding. (command : List ℕ) (words : Words)
         → texts_of words ≡ command ∷ texts_of arguments.now → AskCoding command words (job_of coding))) }

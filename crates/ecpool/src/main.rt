@@ -1,5 +1,5 @@
-//! The program `ecpool`: hands the words, the real input and the real output to [`pool_run::ecpool`], which decides
-//! all, and ends with its status.
+//! The program `ecpool`: hands the words, the real input and the real output to [`pool_run::ecpool`], and ends with its status.
+//! That call decides everything.
 #![tactic(auto)]
 
 use ec_code::Code;
@@ -14,16 +14,16 @@ use std::env;
 use std::io::ErrorKind;
 use std::process::ExitCode;
 
-/// The status where memory ran out.
+/// The status if memory ran out.
 const NO_MEMORY: u8 = 13;
 
-/// The status where a plugin has no box. No run ends with it: the test that would is there for the proof of what `ecpool` asks.
+/// The status if a plugin has no box. No run ends with it: the test for it is there because the proof needs what `ecpool` requires.
 const NO_PLUGIN: u8 = 70;
 
-/// The folder of the slots where the words name none.
+/// The folder of the slots if the words name none.
 const HERE: &str = ".";
 
-// The words behind the program's name. Where one of them is no text there are none, so that the usage is said.
+// The words behind the program's name. If one of them is no text the list is empty, so that the usage line is said.
 fn words(rt: &HostRuntime) -> Result<Vec<String>, NoMemory> {
     let mut words = Vec::new(rt.alloc());
     match env::args(rt) {

@@ -1,9 +1,9 @@
-//! The program `script_rows`: runs of `ecpool` in memory, one a line of its input, and what each of them says. The rows are the
-//! examples of docs/SCRIPT.md.
+//! The program `script_rows`: runs of `ecpool` in memory, one for each line of its input, and what each of them says. The rows are
+//! the examples of docs/SCRIPT.md.
 //!
-//! A row is `WORD.. <INPUT`, where a word `take=N` or `say=N` stands for the call of the input or of the output that fails. For
-//! the escapes see [`texts`]. An empty line and one that begins with `#` are said again. A row is answered by what was said
-//! ([`shown`]) and a line `= STATUS`.
+//! A row is `WORD.. <INPUT`. A word `take=N` or `say=N` stands for the call of the input or of the output that fails. [`texts`] has
+//! the escapes. An empty line and a line that begins with `#` are said again. The answer to a row is what was said ([`shown`])
+//! and a line `= STATUS`.
 #![tactic(auto)]
 
 mod row;

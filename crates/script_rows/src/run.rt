@@ -10,7 +10,7 @@ use rs_van::RsVan;
 use shec_matrix::Shec;
 use std::alloc::Global;
 
-/// The status with which `ecpool` ends on these words and this input, of which the take with the number `fail` fails.
+/// The status with which `ecpool` ends on these words and this input. The take with the number `fail` fails.
 pub fn status_of(
     alloc: Global,
     words: &[String],
@@ -22,7 +22,7 @@ pub fn status_of(
     answered(alloc, words, rig, &mut source)
 }
 
-// Makes the boxes, as the program does, and calls. Each plugin has its box, so the test of it never fails.
+// Makes the boxes, as the program does, and calls. Each plugin has its box, so the test of that never fails.
 fn answered(
     alloc: Global,
     words: &[String],

@@ -1,13 +1,13 @@
-//! How what was said is shown: as it is, but for a line of more than 140 bytes. That line is shown by its length, and then in pieces
-//! of 70 bytes, one a line, where a piece that is alike to the one before it is only counted.
+//! How the output of a run is shown: as it is, except for a line of more than 140 bytes. That line is shown by its length, and then
+//! in pieces of 70 bytes, each on a line. A piece that is equal to the one before it is only counted.
 
 use ec_words::NoMemory;
 use std::alloc::Global;
 
-/// The bytes of the longest line that is shown as it is.
+/// The number of bytes of the longest line that is shown as it is.
 const LONG: usize = 140;
 
-/// The bytes of a piece.
+/// The number of bytes of a piece.
 const PIECE: usize = 70;
 
 /// What was said, line by line.

@@ -1,5 +1,5 @@
 //! The texts of rows. `\n`, `\t` and `\r` stand for the bytes 10, 9 and 13, `\xHH` for the byte with these digits, and `\(N TEXT)`
-//! for N bytes that are TEXT over and over, where `/` stands for the byte 10.
+//! for N bytes that repeat TEXT. In TEXT a `/` stands for the byte 10.
 
 use ec_words::NoMemory;
 use std::alloc::Global;
@@ -58,7 +58,7 @@ fn digit(byte: u8) -> u8 {
     }
 }
 
-// `N TEXT)` and what stands behind it.
+// `N TEXT)` and the text behind it.
 fn push_repeated(piece: &[u8], to: &mut Vec<u8>) -> Result<(), NoMemory> {
     let Ok(text) = std::str::from_utf8(piece) else {
         return Ok(());

@@ -4,7 +4,7 @@ use anyhow::{Result, bail};
 use ec_words::{Bytes, read_u64};
 use std::alloc::Global;
 
-/// The bytes of runs that are parted by blanks: `7*32` is 32 bytes 7, and `up*300` are 0 to 250 and 0 to 48.
+/// The bytes of runs that are separated by blanks: `7*32` is 32 bytes 7, and `up*300` is 0 to 250 and 0 to 48.
 pub fn filled(alloc: Global, runs: &str) -> Result<Bytes> {
     let mut list = Vec::new(alloc);
     for run in runs.split(' ') {

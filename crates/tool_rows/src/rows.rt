@@ -9,7 +9,7 @@ use ec_words::read_u64;
 use rig_disk::{MemRig, VOICE};
 use std::alloc::Global;
 
-/// The files, and which saying of the next run fails, or 0.
+/// The files, and which saying of the next run fails; 0 for none.
 #[derive(Drop)]
 pub struct Rows {
     files: MemFiles,
@@ -17,7 +17,7 @@ pub struct Rows {
 }
 
 impl Rows {
-    /// No files and no fault.
+    /// It has no files and no fault.
     pub fn new(alloc: Global) -> Result<Rows> {
         Ok(Rows {
             files: MemFiles::new(alloc)?,
@@ -98,7 +98,7 @@ fn words_of(alloc: Global, text: &str) -> Result<Vec<String>> {
     Ok(list)
 }
 
-// One word: `~` stands for a blank, and `""` for no letters.
+// One word: `~` stands for a blank, and `""` for the empty word.
 fn word_of(alloc: Global, text: &str) -> Result<String> {
     let mut word = String::new(alloc);
     if text == "\"\"" {

@@ -10,7 +10,7 @@ use rs_van::RsVan;
 use shec_matrix::Shec;
 use std::alloc::Global;
 
-/// Makes the boxes, as the program does, and calls. Each plugin has its box, so the test of it never fails.
+/// Makes the boxes, as the program does, and calls. Each plugin has its box, so the test of that never fails.
 pub fn served(
     alloc: Global,
     words: &[String],

@@ -1,4 +1,4 @@
-//! The files as text: up to eight runs of bytes, else their number and the sum Adler-32 of zlib.
+//! The files as text: up to eight runs of bytes, else the number of bytes and the sum Adler-32 of zlib.
 ghost use Rattle.std.specs.Prelude.{◌≤◌, length};
 
 use anyhow::Result;
@@ -34,7 +34,7 @@ fn show_file(rt: &impl Print, alloc: Global, name: &str, bytes: &[u8]) -> Result
     Ok(())
 }
 
-// The runs of equal bytes, a blank before each; none where there are too many.
+// The runs of equal bytes, a blank before each; none if there are too many.
 fn runs_of(alloc: Global, bytes: &[u8]) -> Result<Option<String>> {
     let mut text = String::new(alloc);
     let mut rest = bytes;

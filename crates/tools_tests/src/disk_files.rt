@@ -70,7 +70,7 @@ fn is_not_written(disk: &mut impl Files, name: &str) -> bool {
     disk.write_file(name, b"x").is_err() && disk.append_file(name, b"x").is_err()
 }
 
-// The file /proc/self/mem can be opened, and reading it at its begin fails.
+// The file /proc/self/mem can be opened, and reading it at its beginning fails.
 #[test]
 fn a_real_fault_has_its_kind(rt: HostRuntime) -> Result<(), Fail> {
     let alloc = rt.alloc();
@@ -114,7 +114,7 @@ fn a_real_file_of_more_than_64_mib_is_too_long(rt: HostRuntime) -> Result<(), Fa
     Ok(())
 }
 
-// Gives one byte a read, is interrupted at the second, and fails at the last.
+// Gives one byte at each read, is interrupted at the second read, and fails at the last.
 #[derive(Drop)]
 struct Broken {
     reads: u8,

@@ -1,4 +1,4 @@
-//! Tests of the tools through their public calls. It has tests alone.
+//! Tests of the tools through their public calls. The crate has only tests.
 #![tactic(auto)]
 
 #[cfg(test)]
