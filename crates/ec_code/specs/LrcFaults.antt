@@ -15,7 +15,7 @@ use Rattle.ec_code.specs.declared.fault.Key.TheVariants as key
 use Rattle.ec_code.specs.Bounds.{Given, IsUnit}
 use Rattle.ec_code.specs.Mappings.{layer_at}
 
--- a text of `len` characters of which the first 16 are kept; 0 stands for each further one
+-- a text of `len` characters, if only the first 16 are kept; 0 stands for each further one
 abbrev pub text_of : List ℕ → ℕ → List ℕ
 text_of first len = map (λ p. slice_index first p) (range_with_len 0 len)
 

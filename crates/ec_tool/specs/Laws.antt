@@ -43,7 +43,7 @@ WrittenFilesAreFound =
     (old : FileMap) (name bytes : List ℕ)
     → (map.get (map.insert old name bytes) name ≡ Some bytes) × KeepsOthers old (map.insert old name bytes) name
 
--- chunk files that `encode` wrote of a file with these bytes, and a job that lists some of its positions, which decide the data
+-- chunk files that `encode` wrote of a file with these bytes, and a job that lists some of its positions; these decide the data
 pub record AreListed (code : CodeRows) (bytes encoded : List ℕ) (written : List Written) (job : Job) : Type 0 where
   pub some_unit : 1 ≤ job.unit
   pub all_bytes : All (λ b. b < 2 ^ 8) bytes

@@ -30,7 +30,7 @@ impl Bytes {
         }
     }
 
-    /// The bytes of a `Vec`, which is taken over as it is.
+    /// The bytes of a `Vec`. It is taken over as it is.
     pub fn of(list: Vec<u8>) -> Bytes
         ensures { result ≡ list.items }
     {
