@@ -16,4 +16,5 @@ pub mod ReadingLemmas
 pub mod RefusalLemmas
 pub mod ShecAgainLemmas
 pub mod ShecLemmas
+pub mod TableLemmas
 pub mod WrittenLemmas

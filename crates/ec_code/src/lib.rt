@@ -15,6 +15,7 @@ mod layouts;
 mod mapping;
 mod profile;
 mod shape;
+mod tables;
 
 pub use code::Code;
 pub use deciding::{combine, decides, row_of};
@@ -23,3 +24,4 @@ pub use fault::{Key, ProfileFault};
 pub use mapping::{Layer, Layers, Mapping};
 pub use profile::{Plugin, Profile, Technique};
 pub use shape::{Shape, default_min};
+pub use tables::read_rows;

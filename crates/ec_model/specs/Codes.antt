@@ -14,12 +14,16 @@ pub record CodeRows : Type 0 where
   pub rows : List (List ℕ)
   pub places : List ℕ
 
--- what holds of each code: data chunk j stands at position `places` j, and the row of that position is unit row j
+-- what holds of each code: each position has a row of k entries or more, entries are bytes, and data chunk j stands at
+-- position `places` j. The row of that position is unit row j. Rows from n on and entries from k on say nothing
 pub record IsCode (code : CodeRows) : Type 0 where
   pub some_data : 1 ≤ code.k
   pub as_many : code.k ≤ code.n
   pub few : code.n ≤ 16
   pub some_lead : 1 ≤ code.lead
+  pub full : code.n ≤ length code.rows
+  pub wide : (p : ℕ) → p < code.n → code.k ≤ length (row_at code.rows p)
+  pub bytes : (p j : ℕ) → entry_at code.rows p j < 2 ^ 8
   pub placed : (j : ℕ) → j < code.k → slice_index code.places j < code.n
   pub units : (i j : ℕ) → i < code.k → j < code.k → entry_at code.rows (slice_index code.places i) j ≡ unit_entry i j
 

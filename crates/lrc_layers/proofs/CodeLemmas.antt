@@ -5,7 +5,8 @@ use Rattle.std.proofs.Math.Nat.{eq-zero-or-pos}
 use Rattle.ec_model.specs.Rows.{entry_at, unit_entry}
 use Rattle.ec_model.specs.Codes.{IsCode}
 use Rattle.ec_model.specs.Lrc.{IsData, IsCoding, IsMadeBy, IsLrc, mark_number, data_count, layer_text}
-use Rattle.ec_code.specs.Tables.{code_of}
+use Rattle.ec_code.specs.Tables.{AreFullRows, code_of}
+use Rattle.ec_code.proofs.TableLemmas.{code_of_table}
 use Rattle.lrc_layers.specs.Layouts.{IsSound}
 use Rattle.lrc_layers.proofs.TextLemmas.{more_marks, whole_count}
 use Rattle.lrc_layers.proofs.CheckLemmas.{has_mark_or_not}
@@ -74,19 +75,18 @@ lrc_of_made mapping layers k n lead rows places sound is = record {
 pub place_of : (mapping : List ℕ) (k j : ℕ) → k ≡ data_count mapping → j < k → (q : ℕ) × (q < length mapping) × IsData mapping q × (mark_number 68 mapping q ≡ j)
 place_of mapping k j e lt = place_with 68 mapping j (length mapping) (omega arith) (omega (arith, e, lt, whole_count 68 mapping (length mapping) refl))
 
-pub code_of_made : (mapping : List ℕ) (layers : List (List ℕ)) (k n lead : ℕ) (rows : List (List ℕ)) (places : List ℕ) → IsSound mapping layers
+pub code_of_made : (mapping : List ℕ) (layers : List (List ℕ)) (k n lead : ℕ) (rows : List (List ℕ)) (places : List ℕ) → AreFullRows rows → IsSound mapping layers
     → IsMade mapping layers k n lead rows places → IsCode (code_of k n lead rows places)
-code_of_made mapping layers k n lead rows places sound is = record {
-  some_data = omega (arith, is.data_chunks, sound.whole.some_data);
-  as_many = omega (arith, is.data_chunks, is.positions, sound.whole.some_coding);
-  few = omega (arith, is.positions, sound.whole.few);
-  some_lead = omega (arith, is.divisor, first_inputs mapping layers sound);
-  placed = λ j lt.
-      let at = place_of mapping k j is.data_chunks lt in
-      omega (arith, at.1, is.positions, ap (λ t. slice_index places t) (sym at.3) ∙ is.data_places at.0 at.2);
-  units = λ i j li lj.
-      let at = place_of mapping k i is.data_chunks li in
-      ap (λ t. entry_at rows t j) (ap (λ t. slice_index places t) (sym at.3) ∙ is.data_places at.0 at.2)
-      ∙ is.units at.0 j at.2 (omega (arith, lj, data_few mapping layers k sound is.data_chunks))
-      ∙ ap (λ t. unit_entry t j) at.3;
-}
+code_of_made mapping layers k n lead rows places are sound is = code_of_table k n lead rows places are
+    (omega (arith, is.data_chunks, sound.whole.some_data))
+    (omega (arith, is.data_chunks, is.positions, sound.whole.some_coding))
+    (omega (arith, is.positions, sound.whole.few))
+    (omega (arith, is.divisor, first_inputs mapping layers sound))
+    (λ j lt.
+    let at = place_of mapping k j is.data_chunks lt in
+    omega (arith, at.1, is.positions, ap (λ t. slice_index places t) (sym at.3) ∙ is.data_places at.0 at.2))
+    (λ i j li lj.
+    let at = place_of mapping k i is.data_chunks li in
+    ap (λ t. entry_at rows t j) (ap (λ t. slice_index places t) (sym at.3) ∙ is.data_places at.0 at.2)
+    ∙ is.units at.0 j at.2 (omega (arith, lj, data_few mapping layers k sound is.data_chunks))
+    ∙ ap (λ t. unit_entry t j) at.3)

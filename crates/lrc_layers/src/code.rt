@@ -11,7 +11,7 @@ use crate::layout::{Layout, layout_of};
 use crate::marks::{DATA, count_of, layer_of};
 use crate::places::places_of;
 use crate::rows::rows_of;
-use ec_code::{Code, Profile, ProfileFault, Shape, encode_rows};
+use ec_code::{Code, Profile, ProfileFault, Shape, encode_rows, read_rows};
 use rs_van::unit_row;
 
 /// The code of a mapping and its layers. Chunk sizes are multiples of the number of inputs of the first layer.
@@ -32,11 +32,13 @@ impl Lrc {
         ensures row { entry_at (⟦<Lrc as Code>⟧.meaning result).rows 0 0 ≡ 1 }
         ensures place { slice_index (⟦<Lrc as Code>⟧.meaning result).places 0 ≡ 0 }
     {
+        let rows = [unit_row(0); 16];
+        read_rows(&rows);
         Lrc {
             k: 1,
             n: 1,
             lead: 1,
-            rows: [unit_row(0); 16],
+            rows,
             places: [0; 16],
         }
     }
@@ -46,11 +48,13 @@ impl Lrc {
         ensures { IsLrc (text_of_layer layout.now.mapping) (layer_texts layout.now.layers)
             (⟦<Lrc as Code>⟧.meaning result) }
     {
+        let rows = rows_of(&layout.mapping, &layout.layers);
+        read_rows(&rows);
         Lrc {
             k: count_of(&layout.mapping, DATA),
             n: layout.mapping.len as u8,
             lead: count_of(&layer_of(&layout.layers, 0), DATA),
-            rows: rows_of(&layout.mapping, &layout.layers),
+            rows,
             places: places_of(&layout.mapping),
         }
     }

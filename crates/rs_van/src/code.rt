@@ -7,7 +7,7 @@ ghost use Rattle.rs_van.specs.Systematic.{systematic};
 
 use crate::counts::counts_of;
 use crate::rows::{rows_of, unit_rows};
-use ec_code::{Code, Profile, ProfileFault, Shape, encode_rows};
+use ec_code::{Code, Profile, ProfileFault, Shape, encode_rows, read_rows};
 
 /// The code reed_sol_van. Its data chunks stand first, and chunk sizes are multiples of k.
 #[derive(Clone, Copy)]
@@ -25,11 +25,9 @@ impl RsVan {
         ensures row { entry_at (⟦<RsVan as Code>⟧.meaning result).rows 0 0 ≡ 1 }
         ensures place { slice_index (⟦<RsVan as Code>⟧.meaning result).places 0 ≡ 0 }
     {
-        RsVan {
-            k: 1,
-            n: 1,
-            rows: unit_rows(1),
-        }
+        let rows = unit_rows(1);
+        read_rows(&rows);
+        RsVan { k: 1, n: 1, rows }
     }
 }
 
@@ -44,10 +42,12 @@ impl Code for RsVan {
 
     fn init(&mut self, profile: &Profile) -> Result<(), ProfileFault> {
         let counts = counts_of(profile)?;
+        let rows = rows_of(counts.k, counts.m);
+        read_rows(&rows);
         *self = RsVan {
             k: counts.k,
             n: counts.k + counts.m,
-            rows: rows_of(counts.k, counts.m),
+            rows,
         };
         Ok(())
     }

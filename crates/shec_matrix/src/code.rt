@@ -7,7 +7,7 @@ ghost use Rattle.rs_van.specs.Systematic.{systematic};
 
 use crate::counts::counts_of;
 use crate::rows::rows_of;
-use ec_code::{Code, Profile, ProfileFault, Shape, encode_rows};
+use ec_code::{Code, Profile, ProfileFault, Shape, encode_rows, read_rows};
 use rs_van::unit_rows;
 
 /// The code shec. Its data chunks stand first, and chunk sizes are multiples of k.
@@ -26,11 +26,9 @@ impl Shec {
         ensures row { entry_at (⟦<Shec as Code>⟧.meaning result).rows 0 0 ≡ 1 }
         ensures place { slice_index (⟦<Shec as Code>⟧.meaning result).places 0 ≡ 0 }
     {
-        Shec {
-            k: 1,
-            n: 1,
-            rows: unit_rows(1),
-        }
+        let rows = unit_rows(1);
+        read_rows(&rows);
+        Shec { k: 1, n: 1, rows }
     }
 }
 
@@ -45,10 +43,12 @@ impl Code for Shec {
 
     fn init(&mut self, profile: &Profile) -> Result<(), ProfileFault> {
         let counts = counts_of(profile)?;
+        let rows = rows_of(counts.k, counts.m, counts.c);
+        read_rows(&rows);
         *self = Shec {
             k: counts.k,
             n: counts.k + counts.m,
-            rows: rows_of(counts.k, counts.m, counts.c),
+            rows,
         };
         Ok(())
     }

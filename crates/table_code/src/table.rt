@@ -4,7 +4,7 @@ ghost use Rattle.ec_model.specs.Rows.{unit_entry, entry_at};
 ghost use Rattle.ec_model.specs.Codes.{IsCode};
 ghost use Rattle.ec_code.specs.Tables.{code_of};
 
-use ec_code::Shape;
+use ec_code::{Shape, read_rows};
 
 /// Rows and data positions that are those of a code.
 #[derive(Clone, Copy)]
@@ -43,6 +43,7 @@ fn is_code(shape: Shape, rows: &[[u8; 16]; 16], places: &[u8; 16]) -> bool
     if shape.k < 1 || shape.n < shape.k || 16 < shape.n || shape.lead < 1 {
         return false;
     }
+    read_rows(rows);
     for i in 0..shape.k {
         if !is_placed(rows, places[i as usize], i, shape) {
             return false;

@@ -34,12 +34,12 @@ places_of-requires c = omega (arith, c.args.layout.now.sound.whole.few, length_o
 pub invariant_of-result : goal.invariant_of-result
 invariant_of-result c = record {
   is_code = code_of_made (text_of_layer c.args.layout.now.mapping) (layer_texts c.args.layout.now.layers) c.count_of.result c.args.layout.now.mapping.len c.count_of-2.result
-      c.rows_of.result c.places_of.result c.args.layout.now.sound (record {
+      c.rows_of-rows.result c.places_of.result c.read_rows.ensures c.args.layout.now.sound (record {
         data_chunks = c.count_of.ensures.value;
         positions = sym (length_of_text c.args.layout.now.mapping.first c.args.layout.now.mapping.len);
         divisor = c.count_of-2.ensures.value ∙ ap (λ t. data_count t) c.layer_of.ensures;
-        units = c.rows_of.ensures.units;
-        outputs = c.rows_of.ensures.outputs;
+        units = c.rows_of-rows.ensures.units;
+        outputs = c.rows_of-rows.ensures.outputs;
         data_places = c.places_of.ensures;
       });
 }
@@ -47,11 +47,11 @@ invariant_of-result c = record {
 pub returns : goal.returns
 returns c =
     lrc_of_made (text_of_layer c.args.layout.now.mapping) (layer_texts c.args.layout.now.layers) c.count_of.result c.args.layout.now.mapping.len c.count_of-2.result
-    c.rows_of.result c.places_of.result c.args.layout.now.sound (record {
+    c.rows_of-rows.result c.places_of.result c.args.layout.now.sound (record {
       data_chunks = c.count_of.ensures.value;
       positions = sym (length_of_text c.args.layout.now.mapping.first c.args.layout.now.mapping.len);
       divisor = c.count_of-2.ensures.value ∙ ap (λ t. data_count t) c.layer_of.ensures;
-      units = c.rows_of.ensures.units;
-      outputs = c.rows_of.ensures.outputs;
+      units = c.rows_of-rows.ensures.units;
+      outputs = c.rows_of-rows.ensures.outputs;
       data_places = c.places_of.ensures;
     })

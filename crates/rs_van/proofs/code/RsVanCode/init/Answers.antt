@@ -7,18 +7,18 @@ use Rattle.rs_van.proofs.code.RsVanCode.init.Goals as goal
 
 pub invariant_of-self : goal.invariant_of-self
 invariant_of-self c = record {
-  is_code = code_of_rows c.in_ok-counts.counts.k (c.in_ok-counts.counts.k + c.in_ok-counts.counts.m) c.rows_of.result (omega (arith, c.in_ok-counts.counts.some_data)) (omega arith) c.in_ok-counts.counts.few c.rows_of.ensures.units;
+  is_code = code_of_rows c.in_ok-counts.counts.k (c.in_ok-counts.counts.k + c.in_ok-counts.counts.m) c.rows_of-rows.result c.read_rows.ensures (omega (arith, c.in_ok-counts.counts.some_data)) (omega arith) c.in_ok-counts.counts.few c.rows_of-rows.ensures.units;
 }
 
 pub returns-clause-made : goal.returns-clause-made
 returns-clause-made c = λ _.
-    code_by c.args.profile.now (jerasure_by_name c.args.profile.now.plugin c.requires) (systematic c.in_ok-counts.counts.k (c.in_ok-counts.counts.k + c.in_ok-counts.counts.m) c.rows_of.result)
+    code_by c.args.profile.now (jerasure_by_name c.args.profile.now.plugin c.requires) (systematic c.in_ok-counts.counts.k (c.in_ok-counts.counts.k + c.in_ok-counts.counts.m) c.rows_of-rows.result)
     c.in_ok-counts.counts.k c.in_ok-counts.counts.m c.in_ok-counts.ensures.numbers.0 c.in_ok-counts.ensures.numbers.1
-    (reed_sol_van_of c.in_ok-counts.counts.k c.in_ok-counts.counts.m c.rows_of.result c.rows_of.ensures.units c.rows_of.ensures.coding)
+    (reed_sol_van_of c.in_ok-counts.counts.k c.in_ok-counts.counts.m c.rows_of-rows.result c.rows_of-rows.ensures.units c.rows_of-rows.ensures.coding)
 
 pub returns-clause-promise : goal.returns-clause-promise
 returns-clause-promise c = λ _.
-    promise_by c.args.profile.now.plugin (jerasure_by_name c.args.profile.now.plugin c.requires) (systematic c.in_ok-counts.counts.k (c.in_ok-counts.counts.k + c.in_ok-counts.counts.m) c.rows_of.result)
-    (any_k_decide_all c.in_ok-counts.counts.k c.in_ok-counts.counts.m (systematic c.in_ok-counts.counts.k (c.in_ok-counts.counts.k + c.in_ok-counts.counts.m) c.rows_of.result)
+    promise_by c.args.profile.now.plugin (jerasure_by_name c.args.profile.now.plugin c.requires) (systematic c.in_ok-counts.counts.k (c.in_ok-counts.counts.k + c.in_ok-counts.counts.m) c.rows_of-rows.result)
+    (any_k_decide_all c.in_ok-counts.counts.k c.in_ok-counts.counts.m (systematic c.in_ok-counts.counts.k (c.in_ok-counts.counts.k + c.in_ok-counts.counts.m) c.rows_of-rows.result)
     c.in_ok-counts.counts.some_data c.in_ok-counts.counts.some_coding c.in_ok-counts.counts.few
-    (reed_sol_van_of c.in_ok-counts.counts.k c.in_ok-counts.counts.m c.rows_of.result c.rows_of.ensures.units c.rows_of.ensures.coding))
+    (reed_sol_van_of c.in_ok-counts.counts.k c.in_ok-counts.counts.m c.rows_of-rows.result c.rows_of-rows.ensures.units c.rows_of-rows.ensures.coding))
