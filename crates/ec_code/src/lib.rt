@@ -7,6 +7,7 @@
 //! In the code with the rows 1 0, 0 1 and 1 1, each two positions decide the third, with the coefficients 1 and 1.
 #![tactic(auto)]
 
+mod checks;
 mod code;
 mod deciding;
 mod encode;
@@ -17,6 +18,7 @@ mod profile;
 mod shape;
 mod tables;
 
+pub use checks::{is_other_width, is_out_of_range, is_unit};
 pub use code::Code;
 pub use deciding::{combine, decides, row_of};
 pub use encode::{encode_chunk, encode_rows};

@@ -1,7 +1,7 @@
 //! What is asked of a mapping and its layers.
 ghost use Rattle.std.specs.Prelude.{◌≡◌, ◌↔◌, ◌⊎◌, ◌<◌, ◌≤◌, ℕ, IsTrue, length};
 ghost use Rattle.ec_model.specs.Lrc.{IsMadeBefore, HasLengthFault, LacksInput, HasInputFault, LacksOutput, HasOutputFault, data_count};
-ghost use Rattle.ec_code.specs.Bounds.{Given, IsUnit};
+ghost use Rattle.ec_code.specs.Bounds.{Given};
 ghost use Rattle.ec_code.specs.LrcFaults.{text_of_layer, layer_texts};
 
 use crate::marks::{CODING, DATA, count_of, layer_of, mark_at};
@@ -126,13 +126,7 @@ pub fn has_output_fault(mapping: &Layer, layers: &Layers) -> bool
     has_idle_layer(mapping, layers) || leaves_position_out(mapping, layers)
 }
 
-pub fn is_unit(unit: u32) -> bool
-    ensures { IsTrue result ↔ IsUnit unit }
-{
-    32 <= unit && unit <= 65536 && unit % 32 == 0
-}
-
-/// Whether the least number of positions is below the number of data chunks or above the number of all positions.
+/// Whether the least number of positions is below the number of data chunks or above that of all.
 pub fn is_out_of_range(least: Option<u32>, mapping: &Layer) -> bool
     requires { mapping.now.len ≤ 16 }
     ensures { IsTrue result ↔ Given least (λ least.

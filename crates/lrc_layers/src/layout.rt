@@ -5,12 +5,10 @@ ghost use Rattle.ec_code.specs.LrcFaults.{mapping_text, text_of_layer, layer_tex
 ghost use Rattle.ec_code.specs.Refusals.{fault_order, IsFirst, IsRefusedBy, IsAccepted};
 ghost use Rattle.lrc_layers.specs.Layouts.{IsSound, IsMapping, IsLayoutOf};
 
-use crate::checks::{
-    has_input_fault, has_length_fault, has_output_fault, is_out_of_range, is_unit,
-};
+use crate::checks::{has_input_fault, has_length_fault, has_output_fault, is_out_of_range};
 use crate::marks::{DATA, count_of};
 use crate::numbers::{has_many_positions, has_uneven_groups, made_by};
-use ec_code::{Key, Layer, Layers, Mapping, Plugin, Profile, ProfileFault};
+use ec_code::{Key, Layer, Layers, Mapping, Plugin, Profile, ProfileFault, is_unit};
 
 /// A mapping, and layers that make a code with it.
 #[derive(Clone, Copy)]

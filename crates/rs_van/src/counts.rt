@@ -1,8 +1,10 @@
 //! The numbers that a profile of the plugin jerasure gives, and why it may be refused.
 ghost use Rattle.std.specs.Prelude.{◌≡◌, ◌≢◌, ◌↔◌, ◌⊎◌, ◌+◌, ◌<◌, ◌≤◌, IsTrue, IsNone, IsOk, IfSome, IfOk, IfErr, Some};
-ghost use Rattle.ec_code.specs.Refusals.{Given, IsUnit, IsRefusedBy, IsAccepted};
+ghost use Rattle.ec_code.specs.Refusals.{Given, IsRefusedBy, IsAccepted};
 
-use ec_code::{Key, Plugin, Profile, ProfileFault, Technique};
+use ec_code::{
+    Key, Plugin, Profile, ProfileFault, Technique, is_other_width, is_out_of_range, is_unit,
+};
 
 /// The numbers of data and of coding chunks.
 #[derive(Clone, Copy)]
@@ -23,33 +25,7 @@ fn is_other_technique(technique: Option<Technique>) -> bool
     }
 }
 
-fn is_other_width(w: Option<u32>) -> bool
-    ensures { IsTrue result ↔ Given w (λ w. w ≢ 8) }
-{
-    match w {
-        Some(w) => w != 8,
-        None => false,
-    }
-}
-
-fn is_unit(unit: u32) -> bool
-    ensures { IsTrue result ↔ IsUnit unit }
-{
-    32 <= unit && unit <= 65536 && unit % 32 == 0
-}
-
-/// Whether the least number of positions is below k or above the number of all positions.
-fn is_out_of_range(least: Option<u32>, k: u32, m: u32) -> bool
-    requires { k + m ≤ 16 }
-    ensures { IsTrue result ↔ Given least (λ least. (least < k) ⊎ (k + m < least)) }
-{
-    match least {
-        Some(least) => least < k || k + m < least,
-        None => false,
-    }
-}
-
-/// The first fault in the order, if k and m are given.
+/// The first fault in the order, where k and m are given.
 fn fault_of(profile: &Profile, k: u32, m: u32) -> Option<ProfileFault>
     requires plugin { profile.now.plugin ≡ Plugin.Jerasure }
     requires k { profile.now.k ≡ Some k }
@@ -70,7 +46,7 @@ fn fault_of(profile: &Profile, k: u32, m: u32) -> Option<ProfileFault>
         Some(ProfileFault::TooMany)
     } else if !is_unit(profile.stripe_unit) {
         Some(ProfileFault::Unit)
-    } else if is_out_of_range(profile.min_size, k, m) {
+    } else if is_out_of_range(profile.min_size, k, k + m) {
         Some(ProfileFault::MinSize)
     } else {
         None

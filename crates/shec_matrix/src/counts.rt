@@ -1,9 +1,11 @@
 //! The numbers that a profile of the plugin shec gives, and why it may be refused.
 ghost use Rattle.std.specs.Prelude.{◌≡◌, ◌≢◌, ◌↔◌, ◌+◌, ◌<◌, ◌≤◌, IsTrue, IsSome, IsNone, IsOk, IfSome, IfOk, IfErr, Some};
-ghost use Rattle.ec_code.specs.Refusals.{Given, IsUnit, IsRefusedBy, IsAccepted};
-ghost use Rattle.ec_code.specs.ShecFaults.{AreMany, IsOutside, AreUnordered};
+ghost use Rattle.ec_code.specs.Refusals.{Given, IsRefusedBy, IsAccepted};
+ghost use Rattle.ec_code.specs.ShecFaults.{AreMany, AreUnordered};
 
-use ec_code::{Key, Plugin, Profile, ProfileFault, Technique};
+use ec_code::{
+    Key, Plugin, Profile, ProfileFault, Technique, is_other_width, is_out_of_range, is_unit,
+};
 
 /// The number of data chunks, the number of coding chunks, and the number of coding chunks that each data chunk is in.
 #[derive(Clone, Copy)]
@@ -25,36 +27,10 @@ fn is_other_technique(technique: Option<Technique>) -> bool
     }
 }
 
-fn is_other_width(w: Option<u32>) -> bool
-    ensures { IsTrue result ↔ Given w (λ w. w ≢ 8) }
-{
-    match w {
-        Some(w) => w != 8,
-        None => false,
-    }
-}
-
 fn are_many(k: u32, m: u32) -> bool
     ensures { IsTrue result ↔ AreMany k m }
 {
     16 < u64::from(k) + u64::from(m) || 12 < k
-}
-
-fn is_unit(unit: u32) -> bool
-    ensures { IsTrue result ↔ IsUnit unit }
-{
-    32 <= unit && unit <= 65536 && unit % 32 == 0
-}
-
-/// Whether the least number of positions is below k or above the number of all positions.
-fn is_out_of_range(least: Option<u32>, k: u32, m: u32) -> bool
-    requires { k + m ≤ 16 }
-    ensures { IsTrue result ↔ Given least (λ least. IsOutside k m least) }
-{
-    match least {
-        Some(least) => least < k || k + m < least,
-        None => false,
-    }
 }
 
 fn are_unordered(k: u32, m: u32, c: u32) -> bool
@@ -86,7 +62,7 @@ fn fault_of(profile: &Profile, k: u32, m: u32, c: u32) -> Option<ProfileFault>
         Some(ProfileFault::TooMany)
     } else if !is_unit(profile.stripe_unit) {
         Some(ProfileFault::Unit)
-    } else if is_out_of_range(profile.min_size, k, m) {
+    } else if is_out_of_range(profile.min_size, k, k + m) {
         Some(ProfileFault::MinSize)
     } else if are_unordered(k, m, c) {
         Some(ProfileFault::Order)
