@@ -1,5 +1,5 @@
 -- An object that is put together from the chunks of one position after another.
-use Rattle.std.proofs.Common.{◌≡◌, ◌≢◌, ◌<◌, ◌≤◌, ◌+◌, ◌-◌, ◌*◌, ◌/◌, ◌%◌, ◌^◌, ◌++◌, ℕ, List, Option, Some, None, length, slice_index, take, drop, get_or, replicate, min, bit_xor, refl, ap, sym, subst, ◌∙◌, arith, inl, inr, zero-add}
+use Rattle.std.proofs.Common.{◌≡◌, ◌<◌, ◌≤◌, ◌+◌, ◌-◌, ◌*◌, ◌/◌, ◌%◌, ◌^◌, ◌++◌, ℕ, List, Option, Some, None, length, slice_index, take, drop, get_or, replicate, min, bit_xor, ap, sym, subst, ◌∙◌, arith, inl, inr, zero-add}
 use borrow.Rule.Slice.PartMut.{put_mid, post_of}
 use Rattle.std.specs.Int.Bits.{xor_zero_l}
 use Rattle.std.specs.List.{All}
@@ -12,8 +12,8 @@ use Rattle.std.proofs.lemmas.Nat.{mul-add-lt, mul-le, div-add-mod'}
 use Rattle.std.proofs.lemmas.Slice.{drop-put_mid}
 use Rattle.ec_model.specs.Codes.{CodeRows, IsCode, HasPosition, IsPositionList}
 use Rattle.ec_model.specs.Field.{field_product}
-use Rattle.ec_model.specs.Rows.{sum_below, row_at, entry_at}
-use Rattle.ec_model.specs.Stripes.{stripe_count, shard_len, padded}
+use Rattle.ec_model.specs.Rows.{row_at, entry_at}
+use Rattle.ec_model.specs.Stripes.{stripe_count, padded}
 use Rattle.ec_matrix.proofs.CallerLemmas.{sum_below-zero, sum_below-change}
 use Rattle.gf256.proofs.CallerLemmas.{field_product-zero}
 use Rattle.stripe_map.specs.Assembling.{MakeData, IsMade, AddsPosition}

@@ -1,4 +1,4 @@
-use Rattle.std.proofs.Common.{rules, ◌+◌, ◌*◌, ◌≤◌, ◌∙◌, ◌≡◌, length, arith}
+use Rattle.std.proofs.Common.{rules, ◌+◌, ◌*◌, ◌≤◌, ◌≡◌, length, arith}
 use Rattle.std.proofs.lemmas.Nat.{mul-le}
 use Rattle.stripe_map.proofs.AssemblyLemmas.{next_unit, rest_stays}
 use Rattle.stripe_map.proofs.EncodingLemmas.{times_next}
