@@ -1,6 +1,5 @@
 -- Laws about the definitions of this crate. Source: this project.
-use Rattle.std.specs.Prelude.{◌≡◌, ◌↔◌, ◌<◌, ◌≤◌, ℕ, List, [], ◌∷◌, length, Some}
-use Rattle.ec_model.specs.Objects.{Objects, Command, Refusal, refusal_of, apply_command, reply_to, reply_of_refusal}
+use Rattle.std.specs.Prelude.{◌≡◌, ◌↔◌, ◌<◌, ◌≤◌, ℕ, List, [], ◌∷◌, length}
 use Rattle.ec_model.specs.Alike.{AreAlike}
 use Rattle.ec_model.specs.Codes.{CodeRows, IsPositionList, DecidesOne}
 use Rattle.ec_model.specs.Stripes.{data_lists, joined}
@@ -19,11 +18,6 @@ pub record ThreeBytesInThreeLists : Type 0 where
   pub first : IsPositionList parity_code 2 (1 ∷ 2 ∷ 3 ∷ []) 0 (1 ∷ 2 ∷ [])
   pub second : IsPositionList parity_code 2 (1 ∷ 2 ∷ 3 ∷ []) 1 (3 ∷ 0 ∷ [])
   pub parity : IsPositionList parity_code 2 (1 ∷ 2 ∷ 3 ∷ []) 2 (2 ∷ 2 ∷ [])
-
--- a refused command leaves the objects, and its reply names the refusal
-abbrev pub RefusalChangesNothing : Type 0
-RefusalChangesNothing = (objects : Objects) (command : Command) (refusal : Refusal)
-    → refusal_of objects command ≡ Some refusal → (apply_command objects command ≡ objects) × (reply_to objects command ≡ reply_of_refusal refusal)
 
 -- codes that are alike have the same list at each position of an object
 abbrev pub AlikeCodesHaveTheSameLists : Type 0

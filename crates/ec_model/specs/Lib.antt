@@ -3,7 +3,6 @@ pub mod Codes
 pub mod Field
 pub mod Laws
 pub mod Lrc
-pub mod Objects
 pub mod ReedSolVan
 pub mod Rows
 pub mod Shec

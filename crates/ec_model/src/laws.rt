@@ -1,5 +1,5 @@
 //! Laws about the definitions alone. Each is the contract of a function with an empty body.
-ghost use Rattle.ec_model.specs.Laws.{DataListsJoinBack, ThreeBytesInThreeLists, RefusalChangesNothing};
+ghost use Rattle.ec_model.specs.Laws.{DataListsJoinBack, ThreeBytesInThreeLists};
 ghost use Rattle.ec_model.specs.Laws.{AlikeCodesHaveTheSameLists, AlikeCodesDecideTheSame};
 
 /// The data chunks, joined stripe by stripe and cut to the size, are the bytes.
@@ -10,11 +10,6 @@ pub fn data_lists_join_back()
 /// A worked example: three bytes in two data chunks, the second padded with a zero, and their sum.
 pub fn three_bytes_in_three_lists()
     ensures { ThreeBytesInThreeLists }
-{}
-
-/// A command whose reply is no `ok` leaves the objects as they were.
-pub fn refusal_changes_nothing()
-    ensures { RefusalChangesNothing }
 {}
 
 /// Codes that are alike have the same list at each position of an object.

@@ -1,7 +1,7 @@
 //! The definitions that every layer shares. They speak of numbers, lists and finite maps alone, and not of the code.
 //!
-//! `specs/Stripes.antt` says how an object's bytes lie in the lists of chunks of its positions. `specs/Objects.antt` says
-//! what the objects are and what a command does to them.
+//! `specs/Stripes.antt` says how an object's bytes lie in the lists of chunks of its positions, and `specs/Codes.antt` what a code
+//! makes of them.
 //!
 //! Headline: the chunks of the data positions, joined stripe by stripe, are the object (`data_lists_join_back`).
 #![tactic(auto)]
@@ -10,5 +10,5 @@ mod laws;
 
 pub use laws::{
     alike_codes_decide_the_same, alike_codes_have_the_same_lists, data_lists_join_back,
-    refusal_changes_nothing, three_bytes_in_three_lists,
+    three_bytes_in_three_lists,
 };

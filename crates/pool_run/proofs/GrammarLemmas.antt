@@ -7,7 +7,8 @@ use Rattle.std.proofs.lemmas.List.Elements.{All-from_recursion}
 use Rattle.std.proofs.lemmas.Slice.Eq.{bytes_eq-Decides}
 use Rattle.hex.specs.Hex.{decode_of}
 use Rattle.hex.specs.declared.error.FromHexError.{FromHexError}
-use Rattle.ec_model.specs.Objects.{Command, Full, Get}
+use Rattle.ec_positions.specs.Commands.{Command, Updates, Get, GetAttr, Stat, ListObjects, Flush, Scrub}
+use Rattle.ec_positions.specs.Updates.{Append, WriteAt, Full, Delete, SetAttr, RemoveAttr}
 use Rattle.ec_words.specs.Fields.{fields, optional_field, HasNoSpace}
 use Rattle.ec_words.specs.HexText.{SpellsBytes, is_digit}
 use Rattle.ec_words.specs.Names.{is_name, is_name_byte, max_name}
@@ -48,11 +49,11 @@ some_digits d digits = ne_eqb (length (d ∷ digits)) 0 (λ e. omega arith)
 read_get : (name : List ℕ) → IsTrue (is_name name) → command_of_fields (codes "get" ∷ name ∷ []) ≡ Some (Get name)
 read_get name is = ap (λ b. cond (not b) None (Some (Get name))) is
 
-read_empty_full : (name : List ℕ) → IsTrue (is_name name) → command_of_fields (codes "full" ∷ name ∷ []) ≡ Some (Full name [])
-read_empty_full name is = ap (λ b. cond (not b) None (Some (Full name []))) is
+read_empty_full : (name : List ℕ) → IsTrue (is_name name) → command_of_fields (codes "full" ∷ name ∷ []) ≡ Some (Updates (Full name []))
+read_empty_full name is = ap (λ b. cond (not b) None (Some (Updates (Full name [])))) is
 
 read_full : (name digits bytes : List ℕ) (d : ℕ) → IsTrue (is_name name) → SpellsBytes (d ∷ digits) bytes
-    → command_of_fields (codes "full" ∷ name ∷ (d ∷ digits) ∷ []) ≡ Some (Full name bytes)
+    → command_of_fields (codes "full" ∷ name ∷ (d ∷ digits) ∷ []) ≡ Some (Updates (Full name bytes))
 read_full name digits bytes d is spells =
     ap (λ b. cond (not b) None (cond (length (d ∷ digits) == 0) None (full_of name (decode_of (d ∷ digits))))) is
     ∙ ap (λ b. cond b None (full_of name (decode_of (d ∷ digits)))) (some_digits d digits)
@@ -64,7 +65,7 @@ get_is_read text name spells =
     ∙ ap command_of_fields (fields-joined (codes "get" ∷ name ∷ []) (omega arith) (name_unbroken (codes "get") refl, (name_unbroken name spells.is_name, tt)))
     ∙ read_get name spells.is_name
 
-full_without_digits : (name bytes : List ℕ) → IsTrue (is_name name) → SpellsBytes [] bytes → command_of (codes "full" ++ 32 ∷ (name ++ [])) ≡ Some (Full name bytes)
+full_without_digits : (name bytes : List ℕ) → IsTrue (is_name name) → SpellsBytes [] bytes → command_of (codes "full" ++ 32 ∷ (name ++ [])) ≡ Some (Updates (Full name bytes))
 full_without_digits name (b ∷ bytes) is spells = absurd spells
 full_without_digits name [] is spells =
     ap (λ n. command_of (codes "full" ++ 32 ∷ n)) (append-nil name)
@@ -72,7 +73,7 @@ full_without_digits name [] is spells =
     ∙ read_empty_full name is
 
 full_with_digits : (name digits bytes : List ℕ) (d : ℕ) → IsTrue (is_name name) → SpellsBytes (d ∷ digits) bytes
-    → command_of (codes "full" ++ 32 ∷ (name ++ 32 ∷ d ∷ digits)) ≡ Some (Full name bytes)
+    → command_of (codes "full" ++ 32 ∷ (name ++ 32 ∷ d ∷ digits)) ≡ Some (Updates (Full name bytes))
 full_with_digits name digits bytes d is spells =
     ap command_of_fields
     (fields-joined (codes "full" ∷ name ∷ (d ∷ digits) ∷ []) (omega arith)
@@ -80,16 +81,26 @@ full_with_digits name digits bytes d is spells =
     ∙ read_full name digits bytes d is spells
 
 full_of_digits : (name bytes digits : List ℕ) → IsTrue (is_name name) → SpellsBytes digits bytes
-    → command_of (codes "full" ++ 32 ∷ (name ++ optional_field digits)) ≡ Some (Full name bytes)
+    → command_of (codes "full" ++ 32 ∷ (name ++ optional_field digits)) ≡ Some (Updates (Full name bytes))
 full_of_digits name bytes [] is spells = full_without_digits name bytes is spells
 full_of_digits name bytes (d ∷ digits) is spells = full_with_digits name digits bytes d is spells
 
-pub full_is_read : (text name bytes : List ℕ) → SpellsFull text name bytes → command_of text ≡ Some (Full name bytes)
+pub full_is_read : (text name bytes : List ℕ) → SpellsFull text name bytes → command_of text ≡ Some (Updates (Full name bytes))
 full_is_read text name bytes spells = ap command_of spells.whole ∙ full_of_digits name bytes spells.digits spells.is_name spells.spells
 
 pub spelled_is_read : (text : List ℕ) (command : Command) → Spells text command → command_of text ≡ Some command
-spelled_is_read text (Full name bytes) spells = full_is_read text name bytes spells
+spelled_is_read text (Updates (Full name bytes)) spells = full_is_read text name bytes spells
 spelled_is_read text (Get name) spells = get_is_read text name spells
+spelled_is_read text (Updates (Append name bytes)) spells = absurd spells
+spelled_is_read text (Updates (WriteAt name off bytes)) spells = absurd spells
+spelled_is_read text (Updates (Delete name)) spells = absurd spells
+spelled_is_read text (Updates (SetAttr name attr value)) spells = absurd spells
+spelled_is_read text (Updates (RemoveAttr name attr)) spells = absurd spells
+spelled_is_read text (GetAttr name attr) spells = absurd spells
+spelled_is_read text (Stat name) spells = absurd spells
+spelled_is_read text ListObjects spells = absurd spells
+spelled_is_read text Flush spells = absurd spells
+spelled_is_read text (Scrub name) spells = absurd spells
 
 -- what is read is spelled
 
@@ -99,14 +110,14 @@ none_is_not command e = absurd (cc)
 -- two fields, by what the tests say of them
 spelled_of_two : (text word name : List ℕ) (command : Command) (named get full : Bool) → join_with_byte 32 (word ∷ name ∷ []) ≡ text
     → is_name name ≡ named → bytes_eq word (codes "get") ≡ get → bytes_eq word (codes "full") ≡ full
-    → cond (not named) None (cond get (Some (Get name)) (cond full (Some (Full name [])) None)) ≡ Some command → Spells text command
+    → cond (not named) None (cond get (Some (Get name)) (cond full (Some (Updates (Full name []))) None)) ≡ Some command → Spells text command
 spelled_of_two text word name command false get full whole named is_get is_full e = none_is_not command e
 spelled_of_two text word name command true true full whole named is_get is_full e =
     let same : Get name ≡ command = cc in
     let is : word ≡ codes "get" = (bytes_eq-Decides word (codes "get")).0 is_get in
     subst (Spells text) same (record { is_name = named; whole = sym whole ∙ ap (λ w. w ++ 32 ∷ name) is })
 spelled_of_two text word name command true false true whole named is_get is_full e =
-    let same : Full name [] ≡ command = cc in
+    let same : Updates (Full name []) ≡ command = cc in
     let is : word ≡ codes "full" = (bytes_eq-Decides word (codes "full")).0 is_full in
     subst (Spells text) same (record {
       is_name = named;
@@ -121,7 +132,7 @@ spelled_of_decoded : (text word name digits : List ℕ) (d : ℕ) (command : Com
     → decode_of (d ∷ digits) ≡ decoded → full_of name decoded ≡ Some command → Spells text command
 spelled_of_decoded text word name digits d command (Err fault) whole named is decoded e = none_is_not command e
 spelled_of_decoded text word name digits d command (Ok bytes) whole named is decoded e =
-    let same : Full name bytes ≡ command = cc in
+    let same : Updates (Full name bytes) ≡ command = cc in
     subst (Spells text) same (record {
       is_name = named;
       digits = d ∷ digits;

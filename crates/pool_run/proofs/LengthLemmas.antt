@@ -4,11 +4,12 @@ use Rattle.std.specs.Prelude.{codes}
 use Rattle.std.specs.List.{slice_split, onto_first, AllByRecursion}
 use Rattle.std.proofs.lemmas.List.{get_or-map, length-map}
 use Rattle.std.proofs.lemmas.List.Elements.{All-from_recursion, All-filter}
-use Rattle.ec_model.specs.Objects.{Command, Full, Get}
+use Rattle.ec_positions.specs.Commands.{Command, Updates, Get, GetAttr, Stat, ListObjects, Flush, Scrub}
+use Rattle.ec_positions.specs.Updates.{Append, WriteAt, Full, Delete, SetAttr, RemoveAttr}
 use Rattle.ec_words.specs.Fields.{optional_field}
 use Rattle.ec_words.specs.HexText.{SpellsBytes}
 use Rattle.pool_run.specs.Grammar.{Spells}
-use Rattle.pool_run.specs.Lines.{is_kept, kept_lines, command_of, WritesAtMost}
+use Rattle.pool_run.specs.Lines.{is_kept, kept_lines, command_of, bytes_put, WritesAtMost}
 use Rattle.pool_run.specs.Stored.{max_object}
 use Rattle.pool_run.specs.Texts.{max_input}
 use Rattle.pool_run.proofs.GrammarLemmas.{read_is_spelled}
@@ -26,16 +27,28 @@ field_long : (digits : List ℕ) → length digits ≤ length (optional_field di
 field_long [] = omega arith
 field_long (d ∷ digits) = omega arith
 
-spelled_writes : (text : List ℕ) (command : Command) → Spells text command → length text ≤ max_input → WritesAtMost max_object command
-spelled_writes text (Get name) s short = tt
-spelled_writes text (Full name bytes) s short =
+-- a line is longer than what it puts: by the word and a space at least
+pub spelled_puts : (text : List ℕ) (command : Command) → Spells text command → length (bytes_put command) + 1 ≤ length text
+spelled_puts text (Get name) s =
+    omega (arith, ap length s.whole ∙ length-append (codes "get") (32 ∷ name))
+spelled_puts text (Updates (Full name bytes)) s =
     let rest = optional_field s.digits in
     let whole : length text ≡ length (codes "full") + length (32 ∷ (name ++ rest)) = ap length s.whole ∙ length-append (codes "full") (32 ∷ (name ++ rest)) in
-    omega (arith, whole, length-append name rest, field_long s.digits, spelled_bytes s.digits bytes s.spells, short)
+    omega (arith, whole, length-append name rest, field_long s.digits, spelled_bytes s.digits bytes s.spells)
+spelled_puts text (Updates (Append name bytes)) s = absurd s
+spelled_puts text (Updates (WriteAt name off bytes)) s = absurd s
+spelled_puts text (Updates (Delete name)) s = absurd s
+spelled_puts text (Updates (SetAttr name attr value)) s = absurd s
+spelled_puts text (Updates (RemoveAttr name attr)) s = absurd s
+spelled_puts text (GetAttr name attr) s = absurd s
+spelled_puts text (Stat name) s = absurd s
+spelled_puts text ListObjects s = absurd s
+spelled_puts text Flush s = absurd s
+spelled_puts text (Scrub name) s = absurd s
 
 -- a line of an input within its limit gives an object within its limit
 pub line_writes : (text : List ℕ) (command : Command) → command_of text ≡ Some command → length text ≤ max_input → WritesAtMost max_object command
-line_writes text command read short = spelled_writes text command (read_is_spelled text command read) short
+line_writes text command read short = omega (arith, spelled_puts text command (read_is_spelled text command read), short)
 
 more_short : (n : ℕ) (parts : List (List ℕ)) → AllByRecursion (λ part. length part ≤ n) parts → AllByRecursion (λ part. length part ≤ n + 1) parts
 more_short n [] all = tt

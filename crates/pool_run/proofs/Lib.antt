@@ -1,3 +1,4 @@
+mod CommandLemmas
 mod GrammarLemmas
 mod KeptLemmas
 mod LengthLemmas
@@ -6,6 +7,7 @@ mod MapLemmas
 mod PieceLemmas
 mod ProfileLemmas
 mod RequestLemmas
+pub mod RoomLemmas
 mod RunLemmas
 mod StatusLemmas
 mod StoredLemmas

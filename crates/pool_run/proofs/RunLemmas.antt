@@ -1,5 +1,5 @@
 -- A script is answered line by line.
-use Rattle.std.proofs.Common.{◌≡◌, ◌⊎◌, ℕ, suc, ◌+◌, ◌<◌, ◌≤◌, min, Bool, true, false, cond, ◌&&◌, List, [], ◌∷◌, ◌++◌, length, map, take, drop, get_or, refl, sym, ap, subst, ◌∙◌, Option, Some, None, Bor, append-nil, arith, inl, inr, drop-cons}
+use Rattle.std.proofs.Common.{◌≡◌, ℕ, suc, ◌+◌, ◌<◌, ◌≤◌, min, Bool, true, false, cond, ◌&&◌, List, [], ◌∷◌, ◌++◌, length, map, take, drop, get_or, refl, sym, ap, subst, ◌∙◌, Option, Some, None, Bor, append-nil, arith, inl, inr, drop-cons}
 use Rattle.std.specs.List.{list_all}
 use Rattle.std.specs.FinMap as finite
 use Rattle.std.specs.Io.KnownBytes.{Appends}
@@ -8,16 +8,18 @@ use Rattle.std.proofs.lemmas.List.Folds.{list_all-append}
 use Rattle.std.proofs.lemmas.Grind.{flat_map-append}
 use Rattle.std.proofs.Math.Seq.{take-append-add, take-length}
 use Rattle.std.proofs.Math.Bool.{and-true}
-use Rattle.ec_model.specs.Objects.{Objects, Command, Reply, apply_line, apply_lines, reply_to_line, replies_to_lines}
+use Rattle.ec_positions.specs.Objects.{Objects}
+use Rattle.ec_positions.specs.Commands.{Command, Reply, apply_line, apply_lines, reply_to_line, replies_to_lines}
 use Rattle.ec_model.specs.Codes.{CodeRows}
 use Rattle.rig_disk.specs.Said.{SaysFront}
 use Rattle.rig_disk.proofs.CallerLemmas.{Appends-none, Appends-more}
 use Rattle.pool_run.specs.Lines.{command_of, commands_of, kept_lines, line_of_command}
-use Rattle.pool_run.specs.Replies.{Answer, Replied, Serves, answer_text, answer_to_line, answers_text, is_done, is_good, objects_after_line, replies_in, replies_text, replies_to, reply_text, served_line}
+use Rattle.pool_run.specs.Replies.{Replied, Serves, answer_to_line, answers_text, is_done, is_good, objects_after_line, replies_in, replies_text, replies_to, reply_text, served_line}
 use Rattle.pool_run.specs.Script.{IsRun}
-use Rattle.pool_run.specs.Stored.{StoredObjects, AreStored}
-use Rattle.pool_run.specs.Texts.{OneOf}
+use Rattle.pool_run.specs.Stored.{StoredObjects, AreStored, HaveRoom}
+use Rattle.pool_run.specs.Texts.{OneOf, max_input}
 use Rattle.pool_run.proofs.KeptLemmas.{none_kept}
+use Rattle.pool_run.proofs.RoomLemmas.{room_for_line}
 
 apply_lines-append : (objects : Objects) (xs ys : List (Option Command)) → apply_lines objects (xs ++ ys) ≡ apply_lines (apply_lines objects xs) ys
 apply_lines-append objects [] ys = refl
@@ -97,25 +99,26 @@ replies_text-push rs r = flat_map-append reply_text rs (r ∷ []) ∙ ap (λ t. 
 list_all-push : (rs : List Reply) (r : Reply) → list_all is_done (rs ++ r ∷ []) ≡ (list_all is_done rs && is_done r)
 list_all-push rs r = list_all-append is_done rs (r ∷ []) ∙ ap (λ b. list_all is_done rs && b) (and-true (is_done r))
 
--- what holds of each map of objects that is kept so
-abbrev pub OfKept : CodeRows → ℕ → StoredObjects → (Objects → Type 0) → Type 0
-OfKept code unit stored P = (objects : Objects) → AreStored code unit objects stored → P objects
+-- what holds of each map of objects that is kept so and has room for a line
+abbrev pub OfKept : CodeRows → ℕ → StoredObjects → ℕ → (Objects → Type 0) → Type 0
+OfKept code unit stored len P = (objects : Objects) → AreStored code unit objects stored → HaveRoom objects len → P objects
 
-pub one_answered : (code : CodeRows) (unit : ℕ) (lines : List (List ℕ)) (x : List ℕ) (stored next : StoredObjects) (fine both : Bool) (before now new : Option (List ℕ))
-    → Answered code unit lines stored fine before now → OfKept code unit stored (λ objects. AreStored code unit (apply_line objects (command_of x)) next)
-    → OfKept code unit stored (λ objects. both ≡ (fine && is_done (reply_to_line objects (command_of x))))
-    → OfKept code unit stored (λ objects. Appends now new (reply_text (reply_to_line objects (command_of x)))) → Answered code unit (lines ++ x ∷ []) next both before new
-one_answered code unit lines x stored next fine both before now new a leaves done says =
+pub one_answered : (code : CodeRows) (unit : ℕ) (lines more : List (List ℕ)) (x : List ℕ) (stored next : StoredObjects) (fine both : Bool) (before now new : Option (List ℕ)) (script : List ℕ)
+    → kept_lines script ≡ lines ++ x ∷ more → length script ≤ max_input → Answered code unit lines stored fine before now → OfKept code unit stored (length x) (λ objects. AreStored code unit (apply_line objects (command_of x)) next)
+    → OfKept code unit stored (length x) (λ objects. both ≡ (fine && is_done (reply_to_line objects (command_of x))))
+    → OfKept code unit stored (length x) (λ objects. Appends now new (reply_text (reply_to_line objects (command_of x)))) → Answered code unit (lines ++ x ∷ []) next both before new
+one_answered code unit lines more x stored next fine both before now new script is within a leaves done says =
     let objects = objects_after lines in
+    let room = room_for_line script lines more x is within in
     let push : replies_from_none (lines ++ x ∷ []) ≡ replies_from_none lines ++ reply_to_line objects (command_of x) ∷ [] = replies_from_none-append lines (x ∷ []) in
     record {
-      kept = subst (λ o. AreStored code unit o next) (sym (objects_after-push lines x)) (leaves objects a.kept);
+      kept = subst (λ o. AreStored code unit o next) (sym (objects_after-push lines x)) (leaves objects a.kept room);
       all_done =
-          done objects a.kept ∙ ap (λ b. b && is_done (reply_to_line objects (command_of x))) a.all_done
+          done objects a.kept room ∙ ap (λ b. b && is_done (reply_to_line objects (command_of x))) a.all_done
           ∙ sym (ap (list_all is_done) push ∙ list_all-push (replies_from_none lines) (reply_to_line objects (command_of x)));
       said =
           subst (Appends before new) (sym (ap replies_text push ∙ replies_text-push (replies_from_none lines) (reply_to_line objects (command_of x))))
-          (Appends-more _ _ _ _ _ a.said (says objects a.kept));
+          (Appends-more _ _ _ _ _ a.said (says objects a.kept room));
     }
 
 front_of : (n : ℕ) (xs ys zs : List ℕ) → take (length xs + min n (length ys)) (xs ++ (ys ++ zs)) ≡ xs ++ take n ys
@@ -125,11 +128,11 @@ front_of n xs ys zs =
 
 -- a line whose reply was said in part
 pub part_answered : (code : CodeRows) (unit : ℕ) (lines more : List (List ℕ)) (x : List ℕ) (stored : StoredObjects) (fine : Bool) (before now new : Option (List ℕ)) (script : List ℕ)
-    → Answered code unit lines stored fine before now → kept_lines script ≡ lines ++ x ∷ more
-    → OfKept code unit stored (λ objects. SaysFront now new (reply_text (reply_to_line objects (command_of x)))) → SaysFront before new (answers_text (replies_to script))
-part_answered code unit lines more x stored fine before now new script a is says =
+    → Answered code unit lines stored fine before now → kept_lines script ≡ lines ++ x ∷ more → length script ≤ max_input
+    → OfKept code unit stored (length x) (λ objects. SaysFront now new (reply_text (reply_to_line objects (command_of x)))) → SaysFront before new (answers_text (replies_to script))
+part_answered code unit lines more x stored fine before now new script a is within says =
     let objects = objects_after lines in
-    let part = says objects a.kept in
+    let part = says objects a.kept (room_for_line script lines more x is within) in
     let r = reply_to_line objects (command_of x) in
     let rest = replies_text (replies_to_lines (apply_line objects (command_of x)) (commands_of more)) in
     let whole : answers_text (replies_to script) ≡ replies_text (replies_from_none lines) ++ (reply_text r ++ rest) =

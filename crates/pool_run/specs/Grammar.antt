@@ -1,6 +1,7 @@
 -- The script language as it is written: words, names and digits, one space apart. Source: this project.
 use Rattle.std.specs.Prelude.{◌≡◌, ℕ, List, ◌∷◌, ◌++◌, codes, IsTrue}
-use Rattle.ec_model.specs.Objects.{Command, Full, Get}
+use Rattle.ec_positions.specs.Commands.{Command, Updates, Get}
+use Rattle.ec_positions.specs.Updates.{Full}
 use Rattle.ec_words.specs.Fields.{optional_field}
 use Rattle.ec_words.specs.HexText.{SpellsBytes}
 use Rattle.ec_words.specs.Names.{is_name}
@@ -17,7 +18,8 @@ pub record SpellsGet (text name : List ℕ) : Type 0 where
   pub is_name : IsTrue (is_name name)
   pub whole : text ≡ codes "get" ++ 32 ∷ name
 
--- the text of a line spells this command
+-- the text of a line spells this command. So far no line spells another one
 abbrev pub Spells : List ℕ → Command → Type 0
-Spells text (Full name bytes) = SpellsFull text name bytes
+Spells text (Updates (Full name bytes)) = SpellsFull text name bytes
 Spells text (Get name) = SpellsGet text name
+Spells text others = ⊥

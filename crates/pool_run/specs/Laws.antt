@@ -1,6 +1,6 @@
 -- Laws about the definitions of this crate. Source: this project.
 use Rattle.std.specs.Prelude.{◌≡◌, ◌↔◌, ℕ, List, Some}
-use Rattle.ec_model.specs.Objects.{Command}
+use Rattle.ec_positions.specs.Commands.{Command}
 use Rattle.pool_run.specs.Grammar.{Spells}
 use Rattle.pool_run.specs.Lines.{command_of}
 use Rattle.pool_run.specs.Pieces.{Piece, AreWholeAndAPart}

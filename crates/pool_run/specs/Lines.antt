@@ -1,9 +1,10 @@
 -- The lines of a script, and the command that each one gives. Source: this project.
-use Rattle.std.specs.Prelude.{◌≤◌, ⊤, ℕ, Bool, false, not, ◌==◌, if◌then◌else◌, List, [], ◌∷◌, length, filter, map, codes, bytes_eq, Option, Some, None, Result, Ok, Err}
+use Rattle.std.specs.Prelude.{◌≤◌, ℕ, Bool, false, not, ◌==◌, if◌then◌else◌, List, [], ◌∷◌, length, filter, map, codes, bytes_eq, Option, Some, None, Result, Ok, Err}
 use Rattle.std.specs.List.{slice_split}
 use Rattle.hex.specs.Hex.{decode_of}
 use Rattle.hex.specs.declared.error.FromHexError.{FromHexError}
-use Rattle.ec_model.specs.Objects.{Command, Full, Get}
+use Rattle.ec_positions.specs.Commands.{Command, Updates, Get}
+use Rattle.ec_positions.specs.Updates.{Full, bytes_given}
 use Rattle.ec_words.specs.Fields.{fields}
 use Rattle.ec_words.specs.Names.{is_name}
 use Rattle.pool_run.specs.declared.line.Line.{Line}
@@ -20,7 +21,7 @@ kept_lines script = filter is_kept (slice_split (λ b. b == 10) script)
 
 -- `full`, where the digits spell bytes
 abbrev pub full_of : List ℕ → Result (List ℕ) FromHexError → Option Command
-full_of name (Ok bytes) = Some (Full name bytes)
+full_of name (Ok bytes) = Some (Updates (Full name bytes))
 full_of name (Err fault) = None
 
 -- the command that the fields of a line give
@@ -28,7 +29,7 @@ abbrev pub command_of_fields : List (List ℕ) → Option Command
 command_of_fields (word ∷ name ∷ []) =
     if not (is_name name) then None
     else if bytes_eq word (codes "get") then Some (Get name)
-    else if bytes_eq word (codes "full") then Some (Full name [])
+    else if bytes_eq word (codes "full") then Some (Updates (Full name []))
     else None
 command_of_fields (word ∷ name ∷ digits ∷ []) =
     if not (bytes_eq word (codes "full")) then None
@@ -37,14 +38,18 @@ command_of_fields (word ∷ name ∷ digits ∷ []) =
     else full_of name (decode_of digits)
 command_of_fields others = None
 
--- the command that a line gives, if it has one of the forms
+-- the command that a line gives, if it has one of the forms. So far these are `full` and `get`: a line of another command has none
 abbrev pub command_of : List ℕ → Option Command
 command_of text = command_of_fields (fields text)
 
--- the bytes that a command gives an object are at most so many
+-- the bytes that a command puts into an object
+abbrev pub bytes_put : Command → List ℕ
+bytes_put (Updates update) = bytes_given update
+bytes_put others = []
+
+-- they are no more than this number
 abbrev pub WritesAtMost : ℕ → Command → Type 0
-WritesAtMost most (Full name bytes) = length bytes ≤ most
-WritesAtMost most (Get name) = ⊤
+WritesAtMost most command = length (bytes_put command) ≤ most
 
 -- those of a script's lines
 abbrev pub commands_of : List (List ℕ) → List (Option Command)
@@ -67,5 +72,5 @@ script_line text = line_of_command (command_of text)
 
 -- the command that the code's type stands for
 abbrev pub command_of_line : Line → Command
-command_of_line (FullLine name bytes) = Full name bytes
+command_of_line (FullLine name bytes) = Updates (Full name bytes)
 command_of_line (GetLine name) = Get name

@@ -3,7 +3,9 @@ use Rattle.std.specs.Prelude.{ℕ, Bool, true, false, List, [], ◌∷◌, ◌++
 use Rattle.std.specs.Fmt.{decimal}
 use Rattle.std.specs.List.{flat_map}
 use Rattle.std.specs.FinMap as finite
-use Rattle.ec_model.specs.Objects.{Objects, Command, Reply, Done, Absent, Bad, apply_command, apply_line, reply_to, reply_to_line}
+use Rattle.ec_positions.specs.Objects.{Objects}
+use Rattle.ec_positions.specs.Refusals.{Refusal, Absent, NoAttr, TooLarge, TooManyObjects, TooFull, TooManyAttrs}
+use Rattle.ec_positions.specs.Commands.{Command, Reply, Done, Clean, Refused, Bad, apply_command, apply_line, reply_to, reply_to_line}
 use Rattle.ec_words.specs.Fields.{optional_field}
 use Rattle.ec_words.specs.Masks.{mask_text}
 use Rattle.pool_run.specs.Lines.{ScriptLine, LongLine, BadLine, Client, command_of, kept_lines, script_line}
@@ -12,24 +14,39 @@ use Rattle.pool_run.specs.declared.reply.Reply.TheVariants.{Done as CodeDone, Ab
 
 -- the reply that the code's type stands for
 abbrev pub shown : CodeReply → Reply
-shown (CodeDone text) = Done text
-shown CodeAbsent = Absent
+shown (CodeDone text) = Done text []
+shown CodeAbsent = Refused Absent
 shown CodeBad = Bad
 
--- the line of a reply, with its line feed
+-- the word of a refusal
+abbrev pub refusal_word : Refusal → List ℕ
+refusal_word Absent = codes "absent"
+refusal_word NoAttr = codes "noattr"
+refusal_word TooLarge = codes "toolarge"
+refusal_word TooManyObjects = codes "objects"
+refusal_word TooFull = codes "full"
+refusal_word TooManyAttrs = codes "attrs"
+
+-- a name with its object's size, under the line of a listing
+abbrev pub listed_text : List ℕ × ℕ → List ℕ
+listed_text listed = 32 ∷ 32 ∷ (listed.0 ++ 32 ∷ (decimal listed.1 ++ 10 ∷ []))
+
+-- the line of a reply and the lines under it, each with its line feed
 abbrev pub reply_text : Reply → List ℕ
-reply_text (Done text) = (codes "ok" ++ optional_field text) ++ 10 ∷ []
-reply_text Absent = codes "absent" ++ 10 ∷ []
+reply_text (Done text listing) = (codes "ok" ++ optional_field text) ++ 10 ∷ flat_map listed_text listing
+reply_text Clean = codes "clean\n"
+reply_text (Refused why) = refusal_word why ++ 10 ∷ []
 reply_text Bad = codes "bad" ++ 10 ∷ []
 
 -- the lines of some replies, one after another
 abbrev pub replies_text : List Reply → List ℕ
 replies_text replies = flat_map reply_text replies
 
--- a reply begins with `ok`
+-- a reply begins with `ok` or is `clean`, so it is no refusal
 abbrev pub is_done : Reply → Bool
-is_done (Done text) = true
-is_done Absent = false
+is_done (Done text listing) = true
+is_done Clean = true
+is_done (Refused why) = false
 is_done Bad = false
 
 -- the reply to the text of a line

@@ -1,10 +1,12 @@
 //! The objects of a run, in memory.
 ghost use Rattle.std.specs.Prelude.{◌≡◌, ◌≤◌, length, IfOk, OnOk, OnErr};
 ghost use Rattle.std.specs.FinMap as map;
-ghost use Rattle.ec_model.specs.Objects.{Objects as ObjectMap, apply_command, reply_to};
-ghost use Rattle.pool_run.specs.Lines.{command_of_line, WritesAtMost};
+ghost use Rattle.ec_positions.specs.Objects.{Objects as ObjectMap};
+ghost use Rattle.ec_positions.specs.Updates.{Full, after};
+ghost use Rattle.ec_positions.specs.Commands.{apply_command, reply_to};
+ghost use Rattle.pool_run.specs.Lines.{bytes_put, command_of_line, WritesAtMost};
 ghost use Rattle.pool_run.specs.Replies.{shown};
-ghost use Rattle.pool_run.specs.Stored.{AreStored, bytes_at, max_object};
+ghost use Rattle.pool_run.specs.Stored.{AreStored, HaveRoom, bytes_at, max_object};
 
 use crate::line::Line;
 use crate::object::StoredObject;
@@ -56,8 +58,10 @@ impl Objects {
         requires stored { (objects : ObjectMap) × AreStored (meaning code.now) unit objects self.old }
         ensures reply { IfOk result (λ reply. (objects : ObjectMap)
             → AreStored (meaning code.now) unit objects self.old
+            → HaveRoom objects (length (bytes_put (command_of_line line)))
             → shown reply ≡ reply_to objects (command_of_line line)) }
         ensures ok { OnOk result ((objects : ObjectMap) → AreStored (meaning code.now) unit objects self.old
+            → HaveRoom objects (length (bytes_put (command_of_line line)))
             → AreStored (meaning code.now) unit (apply_command objects (command_of_line line)) self.new) }
         ensures unchanged { OnErr result (self.new ≡ self.old) }
     {
@@ -85,8 +89,7 @@ impl Objects {
         requires few { unit ≤ 65536 }
         requires within_limit { length bytes.now ≤ max_object }
         ensures ok { OnOk result ((objects : ObjectMap) → AreStored (meaning code.now) unit objects self.old
-            → AreStored (meaning code.now) unit
-            (map.insert objects name (record { bytes = bytes.now })) self.new) }
+            → AreStored (meaning code.now) unit (after objects (Full name bytes.now)) self.new) }
         ensures unchanged { OnErr result (self.new ≡ self.old) }
     {
         let object = StoredObject::encode(self.alloc, code, unit, bytes.as_slice())?;

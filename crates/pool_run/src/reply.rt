@@ -1,7 +1,7 @@
 //! The replies to the lines of a script.
-ghost use Rattle.std.specs.Prelude.{◌≡◌, ◌++◌, IfOk, OnOk};
+ghost use Rattle.std.specs.Prelude.{◌≡◌, ◌++◌, [], IfOk, OnOk};
 ghost use Rattle.hex.specs.Hex.{encode_lower};
-ghost use Rattle.ec_model.specs.Objects.{Done};
+ghost use Rattle.ec_positions.specs.Commands.{Done};
 ghost use Rattle.ec_words.specs.Fields.{optional_field};
 ghost use Rattle.pool_run.specs.Replies.{shown, reply_text, is_done};
 
@@ -22,7 +22,7 @@ pub enum Reply {
 impl Reply {
     /// `ok` with these bytes in hexadecimal digits, in lower case.
     pub fn of_bytes(alloc: Global, bytes: &[u8]) -> Result<Reply, NoMemory>
-        ensures { IfOk result (λ reply. shown reply ≡ Done (encode_lower bytes.now)) }
+        ensures { IfOk result (λ reply. shown reply ≡ Done (encode_lower bytes.now) []) }
     {
         let digits = hex::encode(alloc, bytes)?;
         Ok(Reply::Done(Bytes::from_slice(alloc, digits.as_bytes())?))

@@ -2,11 +2,11 @@
 ghost use Rattle.std.specs.Prelude.{◌≡◌, ◌≢◌, ◌≤◌, ◌&&◌, if◌then◌else◌, ℕ, length, true, IfOk, OnOk, OnErr, Err};
 ghost use Rattle.std.specs.FinMap as map;
 ghost use Rattle.std.specs.Io.KnownBytes.{Appends};
-ghost use Rattle.ec_model.specs.Objects.{Objects as ObjectMap};
+ghost use Rattle.ec_positions.specs.Objects.{Objects as ObjectMap};
 ghost use Rattle.rig_disk.specs.Faults.{Rose};
 ghost use Rattle.rig_disk.specs.Said.{SaysFront};
 ghost use Rattle.pool_run.specs.Replies.{shown, reply_of, objects_after, reply_text, is_done};
-ghost use Rattle.pool_run.specs.Stored.{AreStored};
+ghost use Rattle.pool_run.specs.Stored.{AreStored, HaveRoom};
 ghost use Rattle.pool_run.specs.Texts.{max_input};
 
 use crate::line::{LineFault, read_line};
@@ -46,7 +46,8 @@ impl Session {
         }
     }
 
-    /// Answers a line by objects that are kept by this code with chunks of `unit` bytes, and says the reply.
+    /// Answers a line by objects that are kept by this code with chunks of `unit` bytes, and says the reply. The objects have room
+    /// for what the line may put.
     pub fn serve<R: Rig>(
         &mut self,
         text: &[u8],
@@ -59,14 +60,14 @@ impl Session {
         requires within { length text.now ≤ max_input }
         requires stored { (all : ObjectMap) × AreStored (meaning code.now) unit all self.old.objects }
         ensures done { OnOk result ((all : ObjectMap) → AreStored (meaning code.now) unit all self.old.objects
-            → self.new.all_done ≡ (self.old.all_done && is_done (reply_of all text.now))) }
+            → HaveRoom all (length text.now) → self.new.all_done ≡ (self.old.all_done && is_done (reply_of all text.now))) }
         ensures after { OnOk result ((all : ObjectMap) → AreStored (meaning code.now) unit all self.old.objects
-            → AreStored (meaning code.now) unit (objects_after all text.now) self.new.objects) }
+            → HaveRoom all (length text.now) → AreStored (meaning code.now) unit (objects_after all text.now) self.new.objects) }
         ensures said { OnOk result ((all : ObjectMap) → AreStored (meaning code.now) unit all self.old.objects
-            → Appends (R.said rig.old) (R.said rig.new) (reply_text (reply_of all text.now))) }
+            → HaveRoom all (length text.now) → Appends (R.said rig.old) (R.said rig.new) (reply_text (reply_of all text.now))) }
         ensures quiet { OnOk result (R.faults rig.new VOICE ≡ R.faults rig.old VOICE) }
         ensures front { OnErr result ((all : ObjectMap) → AreStored (meaning code.now) unit all self.old.objects
-            → SaysFront (R.said rig.old) (R.said rig.new) (reply_text (reply_of all text.now))) }
+            → HaveRoom all (length text.now) → SaysFront (R.said rig.old) (R.said rig.new) (reply_text (reply_of all text.now))) }
         ensures voice { result ≡ Err Stop.Voice → Rose (R.faults rig.old VOICE) (R.faults rig.new VOICE) }
         ensures slots { (slot : ℕ) → slot ≢ VOICE → R.faults rig.new slot ≡ R.faults rig.old slot }
     {
@@ -100,6 +101,7 @@ fn both(one: bool, other: bool) -> bool
 }
 
 // The reply to one line, whose effect is done. After an `Err` nothing has changed.
+#[tactic(auto, using(crate::proofs::RoomLemmas::line_room))]
 fn answer(
     alloc: Global,
     text: &[u8],
@@ -112,9 +114,9 @@ fn answer(
     requires within { length text.now ≤ max_input }
     requires stored { (all : ObjectMap) × AreStored (meaning code.now) unit all objects.old }
     ensures reply { IfOk result (λ reply. (all : ObjectMap) → AreStored (meaning code.now) unit all objects.old
-        → shown reply ≡ reply_of all text.now) }
+        → HaveRoom all (length text.now) → shown reply ≡ reply_of all text.now) }
     ensures after { OnOk result ((all : ObjectMap) → AreStored (meaning code.now) unit all objects.old
-        → AreStored (meaning code.now) unit (objects_after all text.now) objects.new) }
+        → HaveRoom all (length text.now) → AreStored (meaning code.now) unit (objects_after all text.now) objects.new) }
     ensures unchanged { OnErr result (objects.new ≡ objects.old) }
 {
     match read_line(alloc, text) {

@@ -18,7 +18,9 @@ pub loop-line-preserved : goal.loop-line-preserved
 loop-line-preserved g c = record {
   answered =
       subst (λ (ls : List (List ℕ)). Answered ((goal.Code-dyn g c.args.code.now).meaning c.args.code.now.1) c.args.unit ls c.serve.new.self.objects c.serve.new.self.all_done (g.R.Rig.said c.args.rig.now) (g.R.Rig.said c.serve.new.rig)) (sym (shown_more c.deref-line-items.result.now c.loop-line.line-index _ c.loop-line-test.true))
-      (one_answered _ _ _ _ _ _ _ _ _ _ _ c.loop-line.invariant.answered c.in-Ok-serve.ensures.after c.in-Ok-serve.ensures.done c.in-Ok-serve.ensures.said);
+      (one_answered _ _ _ _ _ _ _ _ _ _ _ _ c.args.script.now
+      (sym c.in-Ok.ensures ∙ ap shown (sym c.deref-line-items.ensures.value) ∙ shown_at c.deref-line-items.result.now c.loop-line.line-index _ c.loop-line-test.true)
+      c.requires.within c.loop-line.invariant.answered c.in-Ok-serve.ensures.after c.in-Ok-serve.ensures.done c.in-Ok-serve.ensures.said);
   quiet = c.in-Ok-serve.ensures.quiet ∙ c.loop-line.invariant.quiet;
   slots = λ slot other. c.in-Ok-serve.ensures.slots slot other ∙ c.loop-line.invariant.slots slot other;
 }
@@ -34,11 +36,11 @@ returns-in-Err-Voice-clause-run g c =
     stopped _ 9 _ _ (omega arith)
     (part_answered _ _ _ _ _ _ _ _ _ _ c.args.script.now c.loop-line.invariant.answered
     (sym c.in-Ok.ensures ∙ ap shown (sym c.deref-line-items.ensures.value) ∙ shown_at c.deref-line-items.result.now c.loop-line.line-index _ c.loop-line-test.true)
-    c.in-Err-Voice.ensures.front)
+    c.requires.within c.in-Err-Voice.ensures.front)
 
 pub returns-in-Err-NoMemory-clause-run : goal.returns-in-Err-NoMemory-clause-run
 returns-in-Err-NoMemory-clause-run g c =
     stopped _ 13 _ _ (omega arith)
     (part_answered _ _ _ _ _ _ _ _ _ _ c.args.script.now c.loop-line.invariant.answered
     (sym c.in-Ok.ensures ∙ ap shown (sym c.deref-line-items.ensures.value) ∙ shown_at c.deref-line-items.result.now c.loop-line.line-index _ c.loop-line-test.true)
-    c.in-Err-NoMemory.ensures.front)
+    c.requires.within c.in-Err-NoMemory.ensures.front)

@@ -1,0 +1,10 @@
+pub mod CallerLemmas
+pub mod KindLemmas
+pub mod LawLemmas
+pub mod ListLemmas
+pub mod MapLemmas
+pub mod RefusalLemmas
+pub mod TallyLemmas
+pub mod UsageLemmas
+pub mod WindowLemmas
+pub mod WriteLemmas
