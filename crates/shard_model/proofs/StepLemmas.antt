@@ -13,11 +13,11 @@ use Rattle.shard_model.specs.Fronts.{up_to, after}
 use Rattle.shard_model.specs.Objects.{ShardObjects, Geometry, put, IsHeld, MayBeHeld, AreHeld, shard_len}
 use Rattle.shard_model.specs.Changes.{fits_change}
 use Rattle.shard_model.specs.Steps.{Entry, Back, Firm, Trim, Started, Partial, Put, Drop, Clear, Reset, Step, Enter, Rule, Copy}
-use Rattle.shard_model.specs.States.{version_of, effect, logged, settled, undone, is_known, holds, fits, follows, state_after, are_attrs, brought}
+use Rattle.shard_model.specs.States.{Phase, phase_after, version_of, effect, logged, settled, undone, is_known, holds, fits, follows, state_after, are_attrs, brought}
 use Rattle.shard_model.specs.Limits.{max_size, max_attrs}
 use Rattle.shard_model.proofs.UndoLemmas.{few_pairs}
 use Rattle.shard_model.proofs.ShortLemmas.{is_short, pairs_short}
-use Rattle.shard_model.specs.Replays.{Replay, Running, entry_version, replayed, last_version, head, logged_all, log, state_of, replay_after, AreRising, AreFitting, IsWhole, fresh_replay, replay_of, replay_from}
+use Rattle.shard_model.specs.Replays.{Replay, entry_version, replayed, last_version, head, logged_all, log, state_of, replay_after, AreRising, AreFitting, IsWhole, fresh_replay, replay_of, replay_from}
 use Rattle.shard_model.proofs.VersionLemmas.{up_to-trans, above-trans, above-weak, up_to-refl, same-up_to, same_version, is_same-version}
 use Rattle.shard_model.proofs.FrontLemmas.{after-after, up_to-after, after-append, up_to-append, after-map, after-push, any_after}
 use Rattle.shard_model.proofs.ReplayLemmas
@@ -92,7 +92,7 @@ module _ (g : Geometry) (positive : 0 < g.k * g.unit) where
       ∙ ap (λ n. after version_of s.tail (s.past ++ (old ++ n ∷ []))) (ReplayLemmas.settled_above g positive s.firm (logged now e) firm_above)
       ∙ ap (after version_of s.tail) (sym (append_assoc s.past old (logged now e ∷ [])))
       ∙ after-push version_of s.tail (s.past ++ old) (logged now e) tail_above in
-      λ i. record { objects = ReplayLemmas.replayed-append g positive s.base s.entries (e ∷ []) i; log = logs i; tail = s.tail; firm = s.firm; head = ReplayLemmas.last-append g positive s.base_version s.entries e i; les = s.les; partial = s.partial }
+      λ i. record { phase = phase_after s.phase (Enter e); objects = ReplayLemmas.replayed-append g positive s.base s.entries (e ∷ []) i; log = logs i; tail = s.tail; firm = s.firm; head = ReplayLemmas.last-append g positive s.base_version s.entries e i; les = s.les; partial = s.partial }
 
   back_told : (s : Replay) (v : Version) → IsWhole g s → fits g (state_of g s) (Rule (Back v)) ≡ true → told_so s (Rule (Back v))
   back_told s v whole fit =
@@ -110,7 +110,7 @@ module _ (g : Geometry) (positive : 0 < g.k * g.unit) where
       let logs : after version_of s.tail (s.past ++ logged_all g s.firm s.base (up_to entry_version v s.entries)) ≡ up_to version_of v (after version_of s.tail (s.past ++ old)) =
       sym (up_to-after version_of s.tail v (s.past ++ old) low
       ∙ ap (after version_of s.tail) (up_to-append version_of v s.past old past ∙ ap (λ ns. s.past ++ ns) (ReplayLemmas.up_to-logged g positive s.firm v s.base s.entries))) in
-      λ i. record { objects = objects i; log = logs i; tail = s.tail; firm = s.firm; head = held_last s v whole running held i; les = s.les; partial = s.partial }
+      λ i. record { phase = phase_after s.phase (Rule (Back v)); objects = objects i; log = logs i; tail = s.tail; firm = s.firm; head = held_last s v whole running held i; les = s.les; partial = s.partial }
 
   firm_told : (s : Replay) (v : Version) → IsWhole g s → fits g (state_of g s) (Rule (Firm v)) ≡ true → told_so s (Rule (Firm v))
   firm_told s v whole fit =
@@ -121,12 +121,12 @@ module _ (g : Geometry) (positive : 0 < g.k * g.unit) where
       (λ i. after version_of s.tail (ReplayLemmas.past_settled g positive v s.past whole.closed i ++ ReplayLemmas.logged_all-firm g positive s.firm v s.base s.entries firm i))
       ∙ ap (after version_of s.tail) (sym (map-append (settled v) s.past old))
       ∙ after-map version_of (settled v) (λ n. refl) s.tail (s.past ++ old) in
-      λ i. record { objects = replayed g s.base s.entries; log = logs i; tail = s.tail; firm = v; head = head s; les = s.les; partial = s.partial }
+      λ i. record { phase = phase_after s.phase (Rule (Firm v)); objects = replayed g s.base s.entries; log = logs i; tail = s.tail; firm = v; head = head s; les = s.les; partial = s.partial }
 
   trim_told : (s : Replay) (v : Version) → IsWhole g s → fits g (state_of g s) (Rule (Trim v)) ≡ true → told_so s (Rule (Trim v))
   trim_told s v whole fit =
       let low = known_low s v (and_parts _ _ (and_parts (not s.partial) _ fit).1).0 in
-      λ i. record { objects = replayed g s.base s.entries; log = sym (after-after version_of s.tail v (s.past ++ logged_all g s.firm s.base s.entries) low) i; tail = v; firm = s.firm; head = head s; les = s.les; partial = s.partial }
+      λ i. record { phase = phase_after s.phase (Rule (Trim v)); objects = replayed g s.base s.entries; log = sym (after-after version_of s.tail v (s.past ++ logged_all g s.firm s.base s.entries) low) i; tail = v; firm = s.firm; head = head s; les = s.les; partial = s.partial }
 
   -- with no entries and no past, a function of them does not look at the base
   based_told : (s : Replay) (m : ShardObjects) → (s.past ≡ []) × (s.entries ≡ []) → (t : Version) (f : Version) → after version_of t (s.past ++ logged_all g f m s.entries) ≡ log g s
@@ -142,16 +142,16 @@ module _ (g : Geometry) (positive : 0 < g.k * g.unit) where
   one_more s (Rule Partial) whole fit = refl
   one_more s (Copy (Put name size bytes attrs)) whole fit =
       let none = whole.alone (and_parts s.partial _ fit).0 in
-      λ i. record { objects = (ap (replayed g (put s.base name (Some (brought size bytes attrs)))) none.1 ∙ sym (ap (λ es. put (replayed g s.base es) name (Some (brought size bytes attrs))) none.1)) i; log = based_told s (put s.base name (Some (brought size bytes attrs))) none s.tail s.firm i; tail = s.tail; firm = s.firm; head = head s; les = s.les; partial = s.partial }
+      λ i. record { phase = phase_after s.phase (Copy (Put name size bytes attrs)); objects = (ap (replayed g (put s.base name (Some (brought size bytes attrs)))) none.1 ∙ sym (ap (λ es. put (replayed g s.base es) name (Some (brought size bytes attrs))) none.1)) i; log = based_told s (put s.base name (Some (brought size bytes attrs))) none s.tail s.firm i; tail = s.tail; firm = s.firm; head = head s; les = s.les; partial = s.partial }
   one_more s (Copy (Drop name)) whole fit =
       let none = whole.alone fit in
-      λ i. record { objects = (ap (replayed g (put s.base name None)) none.1 ∙ sym (ap (λ es. put (replayed g s.base es) name None) none.1)) i; log = based_told s (put s.base name None) none s.tail s.firm i; tail = s.tail; firm = s.firm; head = head s; les = s.les; partial = s.partial }
+      λ i. record { phase = phase_after s.phase (Copy (Drop name)); objects = (ap (replayed g (put s.base name None)) none.1 ∙ sym (ap (λ es. put (replayed g s.base es) name None) none.1)) i; log = based_told s (put s.base name None) none s.tail s.firm i; tail = s.tail; firm = s.firm; head = head s; les = s.les; partial = s.partial }
   one_more s (Copy Clear) whole fit =
       let none = whole.alone fit in
-      λ i. record { objects = ap (replayed g fin.empty) none.1 i; log = based_told s fin.empty none s.tail s.firm i; tail = s.tail; firm = s.firm; head = head s; les = s.les; partial = s.partial }
+      λ i. record { phase = phase_after s.phase (Copy Clear); objects = ap (replayed g fin.empty) none.1 i; log = based_told s fin.empty none s.tail s.firm i; tail = s.tail; firm = s.firm; head = head s; les = s.les; partial = s.partial }
   one_more s (Copy (Reset v epoch)) whole fit =
       let none = whole.alone (and_parts s.partial _ fit).0 in
-      λ i. record { objects = replayed g s.base s.entries; log = based_told s s.base none v v i; tail = v; firm = v; head = ap (last_version v) none.1 i; les = epoch; partial = false }
+      λ i. record { phase = phase_after s.phase (Copy (Reset v epoch)); objects = replayed g s.base s.entries; log = based_told s s.base none v v i; tail = v; firm = v; head = ap (last_version v) none.1 i; les = epoch; partial = false }
 
   rising-append : (v : Version) (es : List Entry) (e : Entry) → AreRising v es → is_up_to e.version (last_version v es) ≡ false → AreRising v (es ++ e ∷ [])
   rising-append v [] e rising above = (above, tt)
@@ -220,9 +220,9 @@ module _ (g : Geometry) (positive : 0 < g.k * g.unit) where
             ]
       ]
 
-  new_base : (s : Replay) (m : ShardObjects) → IsWhole g s → s.partial ≡ true → AreHeld g m
-      → IsWhole g (record { phase = Running; base = m; base_version = s.base_version; past = s.past; entries = s.entries; tail = s.tail; firm = s.firm; les = s.les; partial = s.partial })
-  new_base s m whole partial sized =
+  new_base : (s : Replay) (phase : Phase) (m : ShardObjects) → IsWhole g s → s.partial ≡ true → AreHeld g m
+      → IsWhole g (record { phase = phase; base = m; base_version = s.base_version; past = s.past; entries = s.entries; tail = s.tail; firm = s.firm; les = s.les; partial = s.partial })
+  new_base s phase m whole partial sized =
       let none = whole.alone partial in
       record {
         held = sized;
@@ -336,9 +336,9 @@ module _ (g : Geometry) (positive : 0 < g.k * g.unit) where
       let few : length attrs ≤ max_attrs = leb-true (length attrs) max_attrs lists.0 in
       let short = pairs_short attrs (and_parts (fin.is_sorted (slice_cmp nat_cmp) attrs) (list_all is_short attrs) lists.1).1 in
       let brings : IsHeld g (brought size bytes attrs) = record { small = leb-true size max_size (and_parts (nat_le size max_size) _ parts.1).0; sized = eqb-true (length bytes) (shard_len g size) rest.0; few = omega (arith, few, few_pairs attrs); short = short } in
-      new_base s (put s.base name (Some (brought size bytes attrs))) whole parts.0 (ReplayLemmas.put_held g positive s.base name (Some (brought size bytes attrs)) whole.held brings)
-  whole_after s (Copy (Drop name)) whole fit = new_base s (put s.base name None) whole fit (ReplayLemmas.put_held g positive s.base name None whole.held tt)
-  whole_after s (Copy Clear) whole fit = new_base s fin.empty whole fit (λ q. subst (MayBeHeld g) (sym (fin.get-empty _ q)) tt)
+      new_base s _ (put s.base name (Some (brought size bytes attrs))) whole parts.0 (ReplayLemmas.put_held g positive s.base name (Some (brought size bytes attrs)) whole.held brings)
+  whole_after s (Copy (Drop name)) whole fit = new_base s _ (put s.base name None) whole fit (ReplayLemmas.put_held g positive s.base name None whole.held tt)
+  whole_after s (Copy Clear) whole fit = new_base s _ fin.empty whole fit (λ q. subst (MayBeHeld g) (sym (fin.get-empty _ q)) tt)
   whole_after s (Copy (Reset v epoch)) whole fit =
       let none = whole.alone (and_parts s.partial _ fit).0 in
       record {

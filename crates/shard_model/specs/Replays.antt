@@ -7,11 +7,7 @@ use Rattle.shard_model.specs.Fronts.{up_to, after}
 use Rattle.shard_model.specs.Objects.{ShardObjects, Geometry, put, AreHeld}
 use Rattle.shard_model.specs.Changes.{Settled, fits_change}
 use Rattle.shard_model.specs.Steps.{Entry, Back, Firm, Trim, Started, Partial, Put, Drop, Clear, Reset, Step, Enter, Rule, Copy}
-use Rattle.shard_model.specs.States.{State, Logged, version_of, effect, logged, settled, fits, brought}
-
--- no step yet; a base alone; under way
-pub data Phase : Type 0 where
-  Unbegun Based Running : Phase
+use Rattle.shard_model.specs.States.{Phase, Unbegun, phase_after, State, Logged, version_of, effect, logged, settled, fits, brought}
 
 -- `base`: the objects at the version `base_version`; `past`: checkpointed entries, which the base holds already; `entries`:
 -- those after it
@@ -58,6 +54,7 @@ log g s = after version_of s.tail (s.past ++ logged_all g s.firm s.base s.entrie
 -- the state that a replay comes to
 abbrev pub state_of : Geometry → Replay → State
 state_of g s = record {
+  phase = s.phase;
   objects = replayed g s.base s.entries;
   log = log g s;
   tail = s.tail;
@@ -67,25 +64,28 @@ state_of g s = record {
   partial = s.partial;
 }
 
--- the replay with one step more
-abbrev pub replay_after : Geometry → Replay → Step → Replay
-replay_after g s (Enter e) = record s { phase = Running; entries = s.entries ++ e ∷ [] }
-replay_after g s (Rule (Back v)) = record s { phase = Running; entries = up_to entry_version v s.entries }
-replay_after g s (Rule (Firm v)) = record s { phase = Running; firm = v }
-replay_after g s (Rule (Trim v)) = record s { phase = Running; tail = v }
-replay_after g s (Rule (Started epoch)) = record s { phase = Running; les = epoch }
-replay_after g s (Rule Partial) = record s {
-  phase = Running;
+-- what a step does to all but the phase
+abbrev pub replay_moved : Geometry → Replay → Step → Replay
+replay_moved g s (Enter e) = record s { entries = s.entries ++ e ∷ [] }
+replay_moved g s (Rule (Back v)) = record s { entries = up_to entry_version v s.entries }
+replay_moved g s (Rule (Firm v)) = record s { firm = v }
+replay_moved g s (Rule (Trim v)) = record s { tail = v }
+replay_moved g s (Rule (Started epoch)) = record s { les = epoch }
+replay_moved g s (Rule Partial) = record s {
   base = replayed g s.base s.entries;
   base_version = head s;
   past = [];
   entries = [];
   partial = true;
 }
-replay_after g s (Copy (Put name size bytes attrs)) = record s { phase = Running; base = put s.base name (Some (brought size bytes attrs)) }
-replay_after g s (Copy (Drop name)) = record s { phase = Running; base = put s.base name None }
-replay_after g s (Copy Clear) = record s { phase = Running; base = fin.empty }
-replay_after g s (Copy (Reset v epoch)) = record s { phase = Running; base_version = v; tail = v; firm = v; les = epoch; partial = false }
+replay_moved g s (Copy (Put name size bytes attrs)) = record s { base = put s.base name (Some (brought size bytes attrs)) }
+replay_moved g s (Copy (Drop name)) = record s { base = put s.base name None }
+replay_moved g s (Copy Clear) = record s { base = fin.empty }
+replay_moved g s (Copy (Reset v epoch)) = record s { base_version = v; tail = v; firm = v; les = epoch; partial = false }
+
+-- the replay with one step more
+abbrev pub replay_after : Geometry → Replay → Step → Replay
+replay_after g s step = record (replay_moved g s step) { phase = phase_after s.phase step }
 
 -- before any step
 abbrev pub fresh_replay : Replay

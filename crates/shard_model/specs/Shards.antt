@@ -7,7 +7,7 @@ use Rattle.std.specs.FinMap as fin
 use Rattle.ec_model.specs.Versions.{Version, version_code}
 use Rattle.shard_model.specs.Objects.{ShardObject, shard_object_code, Geometry, ShardObjects}
 use Rattle.shard_model.specs.Changes.{Kind, OfWrite, OfReplace, OfRemove, OfSetAttr, OfRemoveAttr, OfPast, Undo, Fresh, Extent, Kept, Attr, Settled, whole_undo}
-use Rattle.shard_model.specs.States.{State, Logged, state_after}
+use Rattle.shard_model.specs.States.{Phase, Unbegun, Based, Running, State, Logged, state_after}
 use Rattle.shard_model.specs.Steps.{Step}
 
 -- how objects lie in stripes, and what the shard holds
@@ -19,7 +19,7 @@ pub record Shard : Type 0 where
 abbrev pub stepped : Shard → Step → Shard
 stepped s step = record { geometry = s.geometry; state = state_after s.geometry s.state step }
 
--- each kind, undo, entry and shard is told by numbers and lists
+-- each kind, undo, entry, phase and shard is told by numbers and lists
 abbrev pub kind_number : Kind → ℕ
 kind_number OfWrite = 0
 kind_number OfReplace = 1
@@ -85,14 +85,32 @@ logged_code =
     (λ n. ((n.version, n.prior), (n.name, (n.kind, n.undo))))
     (λ p. record { version = p.0.0; prior = p.0.1; name = p.1.0; kind = p.1.1.0; undo = p.1.1.1 }) (λ _. refl)
 
+abbrev pub phase_number : Phase → ℕ
+phase_number Unbegun = 0
+phase_number Based = 1
+phase_number Running = 2
+
+abbrev pub phase_numbered : ℕ → Phase
+phase_numbered zero = Unbegun
+phase_numbered (suc zero) = Based
+phase_numbered (suc (suc n)) = Running
+
+abbrev pub phase_back : (p : Phase) → phase_numbered (phase_number p) ≡ p
+phase_back Unbegun = refl
+phase_back Based = refl
+phase_back Running = refl
+
+abbrev pub phase_code : Coded Phase
+phase_code = code_by ℕ coded_ℕ phase_number phase_numbered phase_back
+
 abbrev pub shard_code : Coded Shard
 shard_code =
-    code_by (((ℕ × ℕ) × (ShardObjects × List Logged)) × ((Version × Version) × (Version × (ℕ × Bool))))
+    code_by (((ℕ × ℕ) × (ShardObjects × List Logged)) × ((Version × Version) × (Version × ((ℕ × Bool) × Phase))))
     (coded× (coded× (coded× coded_ℕ coded_ℕ) (coded× (fin.code {R = slice_cmp nat_cmp} (coded_list coded_ℕ) shard_object_code) (coded_list logged_code)))
-    (coded× (coded× version_code version_code) (coded× version_code (coded× coded_ℕ coded_bool))))
-    (λ s. (((s.geometry.k, s.geometry.unit), (s.state.objects, s.state.log)), ((s.state.tail, s.state.firm), (s.state.head, (s.state.les, s.state.partial)))))
+    (coded× (coded× version_code version_code) (coded× version_code (coded× (coded× coded_ℕ coded_bool) phase_code))))
+    (λ s. (((s.geometry.k, s.geometry.unit), (s.state.objects, s.state.log)), ((s.state.tail, s.state.firm), (s.state.head, ((s.state.les, s.state.partial), s.state.phase)))))
     (λ p. record {
       geometry = record { k = p.0.0.0; unit = p.0.0.1 };
-      state = record { objects = p.0.1.0; log = p.0.1.1; tail = p.1.0.0; firm = p.1.0.1; head = p.1.1.0; les = p.1.1.1.0; partial = p.1.1.1.1 };
+      state = record { objects = p.0.1.0; log = p.0.1.1; tail = p.1.0.0; firm = p.1.0.1; head = p.1.1.0; les = p.1.1.1.0.0; partial = p.1.1.1.0.1; phase = p.1.1.1.1 };
     })
     (λ _. refl)

@@ -23,9 +23,18 @@ pub record Logged : Type 0 where
 abbrev pub version_of : Logged → Version
 version_of n = n.version
 
+-- no step yet; a base alone; under way
+pub data Phase : Type 0 where
+  Unbegun Based Running : Phase
+
+-- the phase after a step
+abbrev pub phase_after : Phase → Step → Phase
+phase_after phase step = Running
+
 -- `tail` is the version before the log's first entry, `head` the last version, `les` the last epoch started; no entry up
 -- to `firm` can be taken back; `partial`: the shard is being filled
 pub record State : Type 0 where
+  pub phase : Phase
   pub objects : ShardObjects
   pub log : List Logged
   pub tail : Version
@@ -97,18 +106,22 @@ fits g s (Copy (Reset v epoch)) = s.partial && nat_lt v.seq seq_limit
 abbrev pub brought : ℕ → List ℕ → List (List ℕ × List ℕ) → ShardObject
 brought size bytes attrs = record { bytes = bytes; size = size; attrs = fin.from_entries attrs }
 
+-- what a step does to all but the phase
+abbrev pub moved : Geometry → State → Step → State
+moved g s (Enter e) =
+    record s { objects = effect g s.objects e; log = s.log ++ logged s.objects e ∷ []; head = e.version }
+moved g s (Rule (Back v)) =
+    record s { objects = undone g s.objects (after version_of v s.log); log = up_to version_of v s.log; head = v }
+moved g s (Rule (Firm v)) = record s { log = map (settled v) s.log; firm = v }
+moved g s (Rule (Trim v)) = record s { log = after version_of v s.log; tail = v }
+moved g s (Rule (Started epoch)) = record s { les = epoch }
+moved g s (Rule Partial) = record s { log = []; partial = true }
+moved g s (Copy (Put name size bytes attrs)) =
+    record s { objects = put s.objects name (Some (brought size bytes attrs)) }
+moved g s (Copy (Drop name)) = record s { objects = put s.objects name None }
+moved g s (Copy Clear) = record s { objects = fin.empty }
+moved g s (Copy (Reset v epoch)) = record s { tail = v; firm = v; head = v; les = epoch; partial = false }
+
 -- the state after a step
 abbrev pub state_after : Geometry → State → Step → State
-state_after g s (Enter e) =
-    record s { objects = effect g s.objects e; log = s.log ++ logged s.objects e ∷ []; head = e.version }
-state_after g s (Rule (Back v)) =
-    record s { objects = undone g s.objects (after version_of v s.log); log = up_to version_of v s.log; head = v }
-state_after g s (Rule (Firm v)) = record s { log = map (settled v) s.log; firm = v }
-state_after g s (Rule (Trim v)) = record s { log = after version_of v s.log; tail = v }
-state_after g s (Rule (Started epoch)) = record s { les = epoch }
-state_after g s (Rule Partial) = record s { log = []; partial = true }
-state_after g s (Copy (Put name size bytes attrs)) =
-    record s { objects = put s.objects name (Some (brought size bytes attrs)) }
-state_after g s (Copy (Drop name)) = record s { objects = put s.objects name None }
-state_after g s (Copy Clear) = record s { objects = fin.empty }
-state_after g s (Copy (Reset v epoch)) = record s { tail = v; firm = v; head = v; les = epoch; partial = false }
+state_after g s step = record (moved g s step) { phase = phase_after s.phase step }

@@ -151,7 +151,7 @@ ordered_less s ns n t is log head partial ordered =
 
 -- the order is of the log, the head and the mark alone
 abbrev pub OrderedWith : State → List Logged → Type 0
-OrderedWith s log = IsOrdered (record { objects = s.objects; log = log; tail = s.tail; firm = s.firm; head = s.head; les = s.les; partial = s.partial })
+OrderedWith s log = IsOrdered (record { phase = s.phase; objects = s.objects; log = log; tail = s.tail; firm = s.firm; head = s.head; les = s.les; partial = s.partial })
 
 pub ordered_with : (s : State) → IsOrdered s → OrderedWith s s.log
 ordered_with s ordered = record { below = ordered.below; rising = ordered.rising; alone = ordered.alone }

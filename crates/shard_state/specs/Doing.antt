@@ -4,7 +4,7 @@ use Rattle.shard_model.specs.Limits.{max_attrs}
 use Rattle.shard_model.specs.Objects.{ShardObject, Geometry as Meant}
 use Rattle.shard_model.specs.Changes.{Change, Write, Replace, Remove, SetAttr, RemoveAttr, Undo, Fresh, Extent, changed, undo_of}
 use Rattle.shard_model.specs.Steps.{Step, Enter, Rule, Copy, Put, Drop, Clear, Reset}
-use Rattle.shard_model.specs.States.{State}
+use Rattle.shard_model.specs.States.{State, Unbegun}
 use Rattle.ec_model.specs.Versions.{zero_version}
 use Rattle.std.specs.FinMap as map
 
@@ -50,6 +50,7 @@ takes_none (Copy (Reset v epoch)) = true
 -- the state before any step
 abbrev pub fresh_state : State
 fresh_state = record {
+  phase = Unbegun;
   objects = map.empty;
   log = [];
   tail = zero_version;

@@ -3,6 +3,7 @@ pub mod Doing
 pub mod EntryMeanings
 pub mod Faults
 pub mod Inner
+pub mod Phases
 pub mod Places
 pub mod Records
 pub mod Sound

@@ -23,6 +23,7 @@ mod kinds;
 mod limits;
 mod log;
 mod pairs;
+mod phase;
 mod place_steps;
 mod places;
 mod reading;

@@ -31,6 +31,7 @@ use crate::held::Held;
 use crate::limits::SEQ_LIMIT;
 use crate::log::{front_len, is_logged, settle_to, take_off};
 use crate::pairs::Pairs;
+use crate::phase::Phase;
 use crate::place_steps::{change_place, empty_place, make_place, restore_place, sweep_front};
 use crate::places::Places;
 use crate::record::Record;
@@ -44,6 +45,7 @@ use std::marker::Model;
 pub struct ShardState {
     alloc: Global,
     geometry: Geometry,
+    phase: Phase,
     places: Places,
     log: Vec<Record>,
     tail: Version,
@@ -76,6 +78,7 @@ impl ShardState {
         ShardState {
             alloc,
             geometry: g,
+            phase: Phase::Unbegun,
             places: Places::new(alloc),
             log: Vec::new(alloc),
             tail: zero,
@@ -95,6 +98,7 @@ impl ShardState {
         Ok(ShardState {
             alloc,
             geometry: self.geometry,
+            phase: self.phase,
             places,
             log,
             tail: self.tail,
@@ -245,6 +249,7 @@ impl ShardState {
             self.undo_newest();
         }
         self.head = *version;
+        self.phase = Phase::Running;
     }
 
     /// An object is brought.
@@ -256,6 +261,7 @@ impl ShardState {
         let held = brought(self.alloc, size, bytes, attrs)?;
         make_place(&mut self.places, self.alloc, name)?;
         self.places.set(name, Some(held));
+        self.phase = Phase::Running;
         Ok(())
     }
 
@@ -390,6 +396,7 @@ impl ShardState {
         ensures { self.new ≡ stepped self.old (Rule (Started epoch)) }
     {
         self.les = epoch;
+        self.phase = Phase::Running;
     }
 
     /// Nothing takes the entries up to a version back any more.
@@ -399,6 +406,7 @@ impl ShardState {
     {
         settle_to(&mut self.log, version);
         self.firm = *version;
+        self.phase = Phase::Running;
     }
 
     /// The log begins after a version.
@@ -410,6 +418,7 @@ impl ShardState {
         sweep_front(&mut self.places, &self.log, cut);
         take_off(&mut self.log, cut);
         self.tail = *version;
+        self.phase = Phase::Running;
     }
 
     /// From now on the shard is filled anew.
@@ -418,6 +427,7 @@ impl ShardState {
     {
         self.log.clear();
         self.partial = true;
+        self.phase = Phase::Running;
     }
 
     /// There is no object with this name.
@@ -426,6 +436,7 @@ impl ShardState {
         ensures { self.new ≡ stepped self.old (Copy (DropName name.now)) }
     {
         empty_place(&mut self.places, name);
+        self.phase = Phase::Running;
     }
 
     /// There are no objects.
@@ -434,6 +445,7 @@ impl ShardState {
         ensures { self.new ≡ stepped self.old (Copy Clear) }
     {
         self.places = Places::new(self.alloc);
+        self.phase = Phase::Running;
     }
 
     /// The shard is whole, at a version and an epoch.
@@ -447,6 +459,7 @@ impl ShardState {
         self.head = version;
         self.les = epoch;
         self.partial = false;
+        self.phase = Phase::Running;
     }
 
     /// Does an entry's step that fits.
@@ -480,6 +493,7 @@ impl ShardState {
             Err(_) => unreachable!(),
         }
         self.head = *version;
+        self.phase = Phase::Running;
         Ok(())
     }
 

@@ -2,7 +2,7 @@ use Rattle.std.proofs.Common.{◌≡◌, ◌<◌, ◌*◌, sym, ap, subst, ◌�
 use Rattle.std.proofs.Math.Nat.{mul-pos}
 use Rattle.std.proofs.lemmas.List.{length-map}
 use Rattle.shard_model.specs.Fronts.{up_to, after}
-use Rattle.shard_model.specs.States.{version_of, undone}
+use Rattle.shard_model.specs.States.{Running, version_of, undone}
 use Rattle.shard_model.specs.Shards.{Shard}
 use Rattle.shard_state.specs.Records.{recorded}
 use Rattle.shard_state.specs.Sound.{logged_in}
@@ -36,8 +36,8 @@ returns-clause-value c =
     let log = log_is c.self.inside.log.items ∙ ap (λ s. s.state.log) c.self.view_is in
     let front = subst (λ ns. take cut ns ≡ up_to version_of v ns) log c.front_len-cut.ensures.front in
     let rest = subst (λ ns. drop cut ns ≡ after version_of v ns) log c.front_len-cut.ensures.rest in
-    ap (λ (t : Shard). record { geometry = t.geometry; state = record t.state { head = v } }) (c.self-2.view_is ∙ end)
-    ∙ (λ i. record { geometry = before.geometry; state = record before.state { objects = undone before.geometry before.state.objects (rest i); log = front i; head = v } })
+    ap (λ (t : Shard). record { geometry = t.geometry; state = record t.state { phase = Running; head = v } }) (c.self-2.view_is ∙ end)
+    ∙ (λ i. record { geometry = before.geometry; state = record before.state { phase = Running; objects = undone before.geometry before.state.objects (rest i); log = front i; head = v } })
 
 pub returns-clause-stripes : goal.returns-clause-stripes
 returns-clause-stripes c =

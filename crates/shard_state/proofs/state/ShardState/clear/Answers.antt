@@ -1,6 +1,7 @@
 use Rattle.std.proofs.Common.{map as each, sym, ap, subst, ◌∙◌}
 use Rattle.shard_model.specs.Objects.{Geometry, AreHeld}
 use Rattle.shard_model.specs.Steps.{Copy, Clear}
+use Rattle.shard_model.specs.States.{Running}
 use Rattle.shard_model.specs.Shards.{Shard, stepped}
 use Rattle.shard_state.specs.Inner.{shard_of}
 use Rattle.shard_state.specs.Places.{inside}
@@ -15,7 +16,7 @@ returns c =
     let g : Geometry = record { k = c.self.inside.geometry.k; unit = c.self.inside.geometry.unit } in
     let s = shard_of c.self.inside in
     let objects = ap inside c.new.ensures ∙ nothing_inside in
-    (λ i. record { geometry = g; state = record { objects = objects i; log = s.state.log; tail = s.state.tail; firm = s.state.firm; head = s.state.head; les = s.state.les; partial = s.state.partial } })
+    (λ i. record { geometry = g; state = record { phase = Running; objects = objects i; log = s.state.log; tail = s.state.tail; firm = s.state.firm; head = s.state.head; les = s.state.les; partial = s.state.partial } })
     ∙ ap (λ t. stepped t (Copy Clear)) c.self.view_is
 
 pub invariant_of-self : goal.invariant_of-self

@@ -17,7 +17,7 @@ returns c =
     let copies = subst (λ (l : List Record). AreCopies (each recorded l) (each recorded c.in_ok-log.log.items)) c.deref.ensures.value c.in_ok-log.ensures in
     let objects = ap inside c.in_ok-places.ensures in
     let log = same_log (each recorded c.self.inside.log.items) (each recorded c.in_ok-log.log.items) copies in
-    (λ i. record { geometry = g; state = record { objects = objects i; log = log i; tail = s.state.tail; firm = s.state.firm; head = s.state.head; les = s.state.les; partial = s.state.partial } })
+    (λ i. record { geometry = g; state = record { phase = s.state.phase; objects = objects i; log = log i; tail = s.state.tail; firm = s.state.firm; head = s.state.head; les = s.state.les; partial = s.state.partial } })
     ∙ c.self.view_is
 
 pub invariant_of-result : goal.invariant_of-result

@@ -6,7 +6,7 @@ use Rattle.shard_model.specs.Objects.{Geometry, MayBeHeld}
 use Rattle.shard_model.specs.Changes.{fits_change, undo_of as undo_of_change}
 use Rattle.shard_model.specs.Steps.{Entry, Enter}
 use Rattle.std.proofs.lemmas.Bool.{and_parts}
-use Rattle.shard_model.specs.States.{logged, follows, fits}
+use Rattle.shard_model.specs.States.{Running, logged, follows, fits}
 use Rattle.shard_state.proofs.OrderLemmas.{ordered_after, OrderedWith, ordered_with}
 use Rattle.shard_state.specs.Sound.{IsOrdered}
 use Rattle.shard_model.specs.Shards.{Shard, stepped}
@@ -75,7 +75,7 @@ returns-clause-ok c =
     ∙ map-append logged_in olds (recorded x ∷ []) ∙ ap (λ n. each logged_in olds ++ n ∷ []) is in
     let objects = ap inside c.in_ok-undo.ensures.ok ∙ objects_entered g positive old made e has in
     let s = shard_of c.self.inside in
-    (λ i. record { geometry = g; state = record { objects = objects i; log = logs i; tail = s.state.tail; firm = s.state.firm; head = e.version; les = s.state.les; partial = s.state.partial } })
+    (λ i. record { geometry = g; state = record { phase = Running; objects = objects i; log = logs i; tail = s.state.tail; firm = s.state.firm; head = e.version; les = s.state.les; partial = s.state.partial } })
     ∙ ap (λ t. stepped t (Enter e)) c.self.view_is
     ∙ ap (stepped c.args.self.now) (sym c.requires.entry)
 

@@ -1,6 +1,7 @@
 use Rattle.std.proofs.Common.{false, map as each, sym, ap, subst, refl, ◌∙◌}
 use Rattle.ec_model.specs.Versions.{zero_version}
 use Rattle.shard_model.specs.Objects.{Geometry, AreHeld}
+use Rattle.shard_model.specs.States.{Unbegun}
 use Rattle.shard_state.specs.Places.{inside}
 use Rattle.shard_state.specs.Records.{recorded}
 use Rattle.shard_state.specs.Sound.{IsKept, logged_in}
@@ -25,4 +26,4 @@ returns c =
     let g : Geometry = record { k = c.args.g.k; unit = c.args.g.unit } in
     let objects = ap inside c.new.ensures ∙ nothing_inside in
     let log = ap (λ es. each logged_in (each recorded es)) c.new-2.ensures.items in
-    λ i. record { geometry = g; state = record { objects = objects i; log = log i; tail = zero_version; firm = zero_version; head = zero_version; les = 0; partial = false } }
+    λ i. record { geometry = g; state = record { phase = Unbegun; objects = objects i; log = log i; tail = zero_version; firm = zero_version; head = zero_version; les = 0; partial = false } }

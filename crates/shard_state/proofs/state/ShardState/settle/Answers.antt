@@ -1,6 +1,7 @@
 use Rattle.std.proofs.Common.{map as each, sym, ap, subst, ◌∙◌}
 use Rattle.shard_model.specs.Objects.{Geometry}
 use Rattle.shard_model.specs.Steps.{Rule, Firm}
+use Rattle.shard_model.specs.States.{Running}
 use Rattle.shard_model.specs.Shards.{Shard, stepped}
 use Rattle.shard_state.specs.Inner.{shard_of}
 use Rattle.shard_state.specs.Places.{inside}
@@ -15,7 +16,7 @@ returns c =
     let g : Geometry = record { k = c.self.inside.geometry.k; unit = c.self.inside.geometry.unit } in
     let s = shard_of c.self.inside in
     let log = ap (each logged_in) c.settle_to.ensures ∙ settled_log c.args.version.now (each recorded c.self.inside.log.items) in
-    (λ i. record { geometry = g; state = record { objects = s.state.objects; log = log i; tail = s.state.tail; firm = c.args.version.now; head = s.state.head; les = s.state.les; partial = s.state.partial } })
+    (λ i. record { geometry = g; state = record { phase = Running; objects = s.state.objects; log = log i; tail = s.state.tail; firm = c.args.version.now; head = s.state.head; les = s.state.les; partial = s.state.partial } })
     ∙ ap (λ t. stepped t (Rule (Firm c.args.version.now))) c.self.view_is
 
 pub invariant_of-self : goal.invariant_of-self

@@ -12,7 +12,7 @@ use Rattle.shard_state.proofs.OrderLemmas.{ordered_after}
 use Rattle.shard_state.proofs.KeepLemmas.{dropped_kept}
 use Rattle.shard_state.proofs.SweepLemmas.{swept_kept}
 use Rattle.shard_model.specs.Fronts.{after}
-use Rattle.shard_model.specs.States.{version_of}
+use Rattle.shard_model.specs.States.{Running, version_of}
 use Rattle.shard_state.proofs.state.ShardState.trim.Goals as goal
 
 pub returns : goal.returns
@@ -21,7 +21,7 @@ returns c =
     let s = shard_of c.self.inside in
     let left = ap log_of c.take_off.ensures ∙ log_dropped c.self.inside.log.items c.front_len-cut.result ∙ c.front_len-cut.ensures.rest in
     let log = sym (log_is c.take_off.new.log.items) ∙ left ∙ ap (after version_of c.args.version.now) (log_is c.self.inside.log.items) in
-    (λ i. record { geometry = g; state = record { objects = c.sweep_front.ensures.same i; log = log i; tail = c.args.version.now; firm = s.state.firm; head = s.state.head; les = s.state.les; partial = s.state.partial } })
+    (λ i. record { geometry = g; state = record { phase = Running; objects = c.sweep_front.ensures.same i; log = log i; tail = c.args.version.now; firm = s.state.firm; head = s.state.head; les = s.state.les; partial = s.state.partial } })
     ∙ ap (λ t. stepped t (Rule (Trim c.args.version.now))) c.self.view_is
 
 pub invariant_of-self : goal.invariant_of-self
