@@ -6,7 +6,7 @@ use Rattle.std.proofs.lemmas.Bool.{and_parts, leb-true}
 use Rattle.ec_model.specs.Versions.{Version}
 use Rattle.ec_words.specs.Names.{is_name_byte}
 use Rattle.shard_model.specs.Changes.{Write, Replace, SetAttr}
-use Rattle.shard_model.specs.Steps.{Entry, Control, Back, Firm, Trim, Started, Partial, Enter, Rule}
+use Rattle.shard_model.specs.Steps.{Entry, ControlStep, Back, Firm, Trim, Started, Partial, Log, Control}
 use Rattle.shard_model.specs.StepBytes.{version_bytes, name_bytes, counted_bytes, head_bytes, change_bytes, step_bytes, IsName}
 
 pub name_short : (name : List ℕ) → IsName name → length name ≤ 255
@@ -37,10 +37,10 @@ replace_long size bytes = omega (arith, length-append (bytes_high_first 4 size) 
 pub set_long : (attr value : List ℕ) → length (change_bytes (SetAttr attr value)) ≡ 5 + (length attr + length value)
 set_long attr value = omega (arith, length-append (name_bytes attr) (counted_bytes value), counted_long value)
 
-pub entry_long : (e : Entry) → length (step_bytes (Enter e)) ≡ 26 + (length e.name + length (change_bytes e.change))
+pub entry_long : (e : Entry) → length (step_bytes (Log e)) ≡ 26 + (length e.name + length (change_bytes e.change))
 entry_long e = omega (arith, length-append (head_bytes (e.version, (e.prior, e.name))) (change_bytes e.change), head_long e.version e.prior e.name)
 
-pub control_long : (c : Control) → length (step_bytes (Rule c)) ≤ 13
+pub control_long : (c : ControlStep) → length (step_bytes (Control c)) ≤ 13
 control_long (Back v) = omega (arith, version_long v)
 control_long (Firm v) = omega (arith, version_long v)
 control_long (Trim v) = omega (arith, version_long v)

@@ -6,7 +6,7 @@ use Rattle.std.proofs.lemmas.List.Folds.{list_any-append}
 use Rattle.ec_model.specs.Versions.{Version, is_up_to, is_same}
 use Rattle.shard_model.specs.Fronts.{up_to}
 use Rattle.shard_model.specs.Objects.{Geometry}
-use Rattle.shard_model.specs.Steps.{Entry, Back, Step, Enter, Rule}
+use Rattle.shard_model.specs.Steps.{Entry, Back, Step, Log, Control}
 use Rattle.shard_model.specs.States.{State, Logged, version_of, logged, is_known, holds, fits, follows, state_after}
 use Rattle.shard_model.specs.Replays.{Replay, entry_version, last_version, head, replayed, state_of, objects_at, replay_after, replay_from, AreRising, IsWhole}
 use Rattle.shard_model.specs.Laws.{KeepsHeld}
@@ -42,11 +42,11 @@ all_up_to low (e ∷ es) rising =
     cond-true (is_up_to e.version (last_version e.version es)) _ [] (steps.last_low e.version es rising.1)
     ∙ ap (λ ds. e ∷ ds) (all_up_to e.version es rising.1)
 
-held_on : (g : Geometry) (t : State) (e : Entry) (v : Version) → holds t v ≡ true → holds (state_after g t (Enter e)) v ≡ true
+held_on : (g : Geometry) (t : State) (e : Entry) (v : Version) → holds t v ≡ true → holds (state_after g t (Log e)) v ≡ true
 held_on g t e v held =
     let parts = and_parts (is_known t v) (is_up_to t.firm v) held in
     let n = logged t.objects e in
-    and_from (is_known (state_after g t (Enter e)) v) (is_up_to t.firm v)
+    and_from (is_known (state_after g t (Log e)) v) (is_up_to t.firm v)
     (elim (or_cases (is_same t.tail v) (is_up_to t.tail v && list_any (is_at v) t.log) parts.0) [
       | inl same ↦ or_left (is_same t.tail v) (is_up_to t.tail v && list_any (is_at v) (t.log ++ n ∷ [])) same
       | inr more ↦
@@ -57,10 +57,10 @@ held_on g t e v held =
     ])
     parts.1
 
-held_before : (g : Geometry) (t : State) (e : Entry) (v : Version) → holds (state_after g t (Enter e)) v ≡ true → (holds t v ≡ true) ⊎ (e.version ≡ v)
+held_before : (g : Geometry) (t : State) (e : Entry) (v : Version) → holds (state_after g t (Log e)) v ≡ true → (holds t v ≡ true) ⊎ (e.version ≡ v)
 held_before g t e v held =
     let n = logged t.objects e in
-    let parts = and_parts (is_known (state_after g t (Enter e)) v) (is_up_to t.firm v) held in
+    let parts = and_parts (is_known (state_after g t (Log e)) v) (is_up_to t.firm v) held in
     elim (or_cases (is_same t.tail v) (is_up_to t.tail v && list_any (is_at v) (t.log ++ n ∷ [])) parts.0) [
       | inl same ↦ inl (and_from (is_known t v) (is_up_to t.firm v) (or_left (is_same t.tail v) (is_up_to t.tail v && list_any (is_at v) t.log) same) parts.1)
       | inr more ↦
@@ -89,9 +89,9 @@ any_front w v (n ∷ ns) h =
       | false ↦ λ above k. absurd (false≢true k)
     ] refl h
 
-held_after_back : (g : Geometry) (t : State) (w v : Version) → holds t w ≡ true → holds (state_after g t (Rule (Back w))) v ≡ true → (holds t v ≡ true) × (is_up_to v w ≡ true)
+held_after_back : (g : Geometry) (t : State) (w v : Version) → holds t w ≡ true → holds (state_after g t (Control (Back w))) v ≡ true → (holds t v ≡ true) × (is_up_to v w ≡ true)
 held_after_back g t w v can held =
-    let parts = and_parts (is_known (state_after g t (Rule (Back w))) v) (is_up_to t.firm v) held in
+    let parts = and_parts (is_known (state_after g t (Control (Back w))) v) (is_up_to t.firm v) held in
     let known_w = (and_parts (is_known t w) (is_up_to t.firm w) can).0 in
     let tail_low : is_up_to t.tail w ≡ true =
     elim (or_cases (is_same t.tail w) (is_up_to t.tail w && list_any (is_at w) t.log) known_w) [
@@ -116,9 +116,9 @@ module _ (g : Geometry) (positive : 0 < g.k * g.unit) (s : Replay) (whole : IsWh
   pub present : objects_at g s (head s) ≡ (state_of g s).objects
   present = ap (replayed g s.base) (all_up_to s.base_version s.entries whole.rising)
 
-  pub keeps_held : (e : Entry) → fits g (state_of g s) (Enter e) ≡ true → KeepsHeld g s e
+  pub keeps_held : (e : Entry) → fits g (state_of g s) (Log e) ≡ true → KeepsHeld g s e
   keeps_held e fit =
-      let law = steps.one_more g positive s (Enter e) whole fit in
+      let law = steps.one_more g positive s (Log e) whole fit in
       let running = not-true s.partial (and_parts (not s.partial) _ (and_parts (follows (state_of g s) e) _ fit).0).0 in
       let above = steps.above_head g positive s e (and_parts (follows (state_of g s) e) _ fit).0 in
       record {
@@ -129,18 +129,18 @@ module _ (g : Geometry) (positive : 0 < g.k * g.unit) (s : Replay) (whole : IsWh
             ap (replayed g s.base) (steps.cut-append g positive v s.entries e (above-trans e.version (head s) v above low));
       }
 
-  pub past_given : (v : Version) → fits g (state_of g s) (Rule (Back v)) ≡ true
-      → ((state_after g (state_of g s) (Rule (Back v))).objects ≡ objects_at g s v) × (head (replay_after g s (Rule (Back v))) ≡ v)
+  pub past_given : (v : Version) → fits g (state_of g s) (Control (Back v)) ≡ true
+      → ((state_after g (state_of g s) (Control (Back v))).objects ≡ objects_at g s v) × (head (replay_after g s (Control (Back v))) ≡ v)
   past_given v fit =
       let parts = and_parts (not s.partial) (holds (state_of g s) v) fit in (
-        sym (ap (λ t. t.objects) (steps.one_more g positive s (Rule (Back v)) whole fit)),
+        sym (ap (λ t. t.objects) (steps.one_more g positive s (Control (Back v)) whole fit)),
         steps.held_last g positive s v whole (not-true s.partial parts.0) parts.1,
       )
 
-  pub past_kept : (w v : Version) → fits g (state_of g s) (Rule (Back w)) ≡ true → holds (state_of g (replay_after g s (Rule (Back w)))) v ≡ true
-      → (holds (state_of g s) v ≡ true) × (objects_at g (replay_after g s (Rule (Back w))) v ≡ objects_at g s v)
+  pub past_kept : (w v : Version) → fits g (state_of g s) (Control (Back w)) ≡ true → holds (state_of g (replay_after g s (Control (Back w)))) v ≡ true
+      → (holds (state_of g s) v ≡ true) × (objects_at g (replay_after g s (Control (Back w))) v ≡ objects_at g s v)
   past_kept w v fit held =
-      let law = steps.one_more g positive s (Rule (Back w)) whole fit in
+      let law = steps.one_more g positive s (Control (Back w)) whole fit in
       let can = (and_parts (not s.partial) (holds (state_of g s) w) fit).1 in
       let both = held_after_back g (state_of g s) w v can (subst (λ t. holds t v ≡ true) law held) in
       (both.0, ap (replayed g s.base) (steps.cut-cut g positive v w s.entries both.1))

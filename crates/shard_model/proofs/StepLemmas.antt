@@ -12,7 +12,7 @@ use Rattle.ec_model.specs.Versions.{Version, is_up_to, is_same}
 use Rattle.shard_model.specs.Fronts.{up_to, after}
 use Rattle.shard_model.specs.Objects.{ShardObjects, Geometry, put, IsHeld, MayBeHeld, AreHeld, shard_len}
 use Rattle.shard_model.specs.Changes.{fits_change}
-use Rattle.shard_model.specs.Steps.{Entry, Back, Firm, Trim, Started, Partial, Put, Drop, Clear, Reset, Step, Enter, Rule, Copy}
+use Rattle.shard_model.specs.Steps.{Entry, Back, Firm, Trim, Started, Partial, Put, Drop, Clear, Reset, Step, Log, Control, Recover}
 use Rattle.shard_model.specs.States.{Phase, phase_after, version_of, effect, logged, settled, undone, is_known, holds, fits, follows, state_after, are_attrs, brought}
 use Rattle.shard_model.specs.Limits.{max_size, max_attrs}
 use Rattle.shard_model.proofs.UndoLemmas.{few_pairs}
@@ -79,7 +79,7 @@ module _ (g : Geometry) (positive : 0 < g.k * g.unit) where
   abbrev told_so : Replay → Step → Type 0
   told_so s step = state_of g (replay_after g s step) ≡ state_after g (state_of g s) step
 
-  enter_told : (s : Replay) (e : Entry) → IsWhole g s → fits g (state_of g s) (Enter e) ≡ true → told_so s (Enter e)
+  enter_told : (s : Replay) (e : Entry) → IsWhole g s → fits g (state_of g s) (Log e) ≡ true → told_so s (Log e)
   enter_told s e whole fit =
       let parts = and_parts (follows (state_of g s) e) _ fit in
       let above = above_head s e parts.0 in
@@ -92,9 +92,9 @@ module _ (g : Geometry) (positive : 0 < g.k * g.unit) where
       ∙ ap (λ n. after version_of s.tail (s.past ++ (old ++ n ∷ []))) (ReplayLemmas.settled_above g positive s.firm (logged now e) firm_above)
       ∙ ap (after version_of s.tail) (sym (append_assoc s.past old (logged now e ∷ [])))
       ∙ after-push version_of s.tail (s.past ++ old) (logged now e) tail_above in
-      λ i. record { phase = phase_after s.phase (Enter e); objects = ReplayLemmas.replayed-append g positive s.base s.entries (e ∷ []) i; log = logs i; tail = s.tail; firm = s.firm; head = ReplayLemmas.last-append g positive s.base_version s.entries e i; les = s.les; partial = s.partial }
+      λ i. record { phase = phase_after s.phase (Log e); objects = ReplayLemmas.replayed-append g positive s.base s.entries (e ∷ []) i; log = logs i; tail = s.tail; firm = s.firm; head = ReplayLemmas.last-append g positive s.base_version s.entries e i; les = s.les; partial = s.partial }
 
-  back_told : (s : Replay) (v : Version) → IsWhole g s → fits g (state_of g s) (Rule (Back v)) ≡ true → told_so s (Rule (Back v))
+  back_told : (s : Replay) (v : Version) → IsWhole g s → fits g (state_of g s) (Control (Back v)) ≡ true → told_so s (Control (Back v))
   back_told s v whole fit =
       let running = not-true s.partial (and_parts (not s.partial) _ fit).0 in
       let held : holds (state_of g s) v ≡ true = (and_parts (not s.partial) _ fit).1 in
@@ -110,9 +110,9 @@ module _ (g : Geometry) (positive : 0 < g.k * g.unit) where
       let logs : after version_of s.tail (s.past ++ logged_all g s.firm s.base (up_to entry_version v s.entries)) ≡ up_to version_of v (after version_of s.tail (s.past ++ old)) =
       sym (up_to-after version_of s.tail v (s.past ++ old) low
       ∙ ap (after version_of s.tail) (up_to-append version_of v s.past old past ∙ ap (λ ns. s.past ++ ns) (ReplayLemmas.up_to-logged g positive s.firm v s.base s.entries))) in
-      λ i. record { phase = phase_after s.phase (Rule (Back v)); objects = objects i; log = logs i; tail = s.tail; firm = s.firm; head = held_last s v whole running held i; les = s.les; partial = s.partial }
+      λ i. record { phase = phase_after s.phase (Control (Back v)); objects = objects i; log = logs i; tail = s.tail; firm = s.firm; head = held_last s v whole running held i; les = s.les; partial = s.partial }
 
-  firm_told : (s : Replay) (v : Version) → IsWhole g s → fits g (state_of g s) (Rule (Firm v)) ≡ true → told_so s (Rule (Firm v))
+  firm_told : (s : Replay) (v : Version) → IsWhole g s → fits g (state_of g s) (Control (Firm v)) ≡ true → told_so s (Control (Firm v))
   firm_told s v whole fit =
       let held : holds (state_of g s) v ≡ true = (and_parts (not s.partial) _ fit).1 in
       let firm : is_up_to s.firm v ≡ true = (and_parts _ _ held).1 in
@@ -121,12 +121,12 @@ module _ (g : Geometry) (positive : 0 < g.k * g.unit) where
       (λ i. after version_of s.tail (ReplayLemmas.past_settled g positive v s.past whole.closed i ++ ReplayLemmas.logged_all-firm g positive s.firm v s.base s.entries firm i))
       ∙ ap (after version_of s.tail) (sym (map-append (settled v) s.past old))
       ∙ after-map version_of (settled v) (λ n. refl) s.tail (s.past ++ old) in
-      λ i. record { phase = phase_after s.phase (Rule (Firm v)); objects = replayed g s.base s.entries; log = logs i; tail = s.tail; firm = v; head = head s; les = s.les; partial = s.partial }
+      λ i. record { phase = phase_after s.phase (Control (Firm v)); objects = replayed g s.base s.entries; log = logs i; tail = s.tail; firm = v; head = head s; les = s.les; partial = s.partial }
 
-  trim_told : (s : Replay) (v : Version) → IsWhole g s → fits g (state_of g s) (Rule (Trim v)) ≡ true → told_so s (Rule (Trim v))
+  trim_told : (s : Replay) (v : Version) → IsWhole g s → fits g (state_of g s) (Control (Trim v)) ≡ true → told_so s (Control (Trim v))
   trim_told s v whole fit =
       let low = known_low s v (and_parts _ _ (and_parts (not s.partial) _ fit).1).0 in
-      λ i. record { phase = phase_after s.phase (Rule (Trim v)); objects = replayed g s.base s.entries; log = sym (after-after version_of s.tail v (s.past ++ logged_all g s.firm s.base s.entries) low) i; tail = v; firm = s.firm; head = head s; les = s.les; partial = s.partial }
+      λ i. record { phase = phase_after s.phase (Control (Trim v)); objects = replayed g s.base s.entries; log = sym (after-after version_of s.tail v (s.past ++ logged_all g s.firm s.base s.entries) low) i; tail = v; firm = s.firm; head = head s; les = s.les; partial = s.partial }
 
   -- with no entries and no past, a function of them does not look at the base
   based_told : (s : Replay) (m : ShardObjects) → (s.past ≡ []) × (s.entries ≡ []) → (t : Version) (f : Version) → after version_of t (s.past ++ logged_all g f m s.entries) ≡ log g s
@@ -134,24 +134,24 @@ module _ (g : Geometry) (positive : 0 < g.k * g.unit) where
       (λ i. after version_of t (none.0 i ++ logged_all g f m (none.1 i))) ∙ sym (λ i. after version_of s.tail (none.0 i ++ logged_all g s.firm s.base (none.1 i)))
 
   pub one_more : (s : Replay) (step : Step) → IsWhole g s → fits g (state_of g s) step ≡ true → state_of g (replay_after g s step) ≡ state_after g (state_of g s) step
-  one_more s (Enter e) whole fit = enter_told s e whole fit
-  one_more s (Rule (Back v)) whole fit = back_told s v whole fit
-  one_more s (Rule (Firm v)) whole fit = firm_told s v whole fit
-  one_more s (Rule (Trim v)) whole fit = trim_told s v whole fit
-  one_more s (Rule (Started epoch)) whole fit = refl
-  one_more s (Rule Partial) whole fit = refl
-  one_more s (Copy (Put name size bytes attrs)) whole fit =
+  one_more s (Log e) whole fit = enter_told s e whole fit
+  one_more s (Control (Back v)) whole fit = back_told s v whole fit
+  one_more s (Control (Firm v)) whole fit = firm_told s v whole fit
+  one_more s (Control (Trim v)) whole fit = trim_told s v whole fit
+  one_more s (Control (Started epoch)) whole fit = refl
+  one_more s (Control Partial) whole fit = refl
+  one_more s (Recover (Put name size bytes attrs)) whole fit =
       let none = whole.alone (and_parts s.partial _ fit).0 in
-      λ i. record { phase = phase_after s.phase (Copy (Put name size bytes attrs)); objects = (ap (replayed g (put s.base name (Some (brought size bytes attrs)))) none.1 ∙ sym (ap (λ es. put (replayed g s.base es) name (Some (brought size bytes attrs))) none.1)) i; log = based_told s (put s.base name (Some (brought size bytes attrs))) none s.tail s.firm i; tail = s.tail; firm = s.firm; head = head s; les = s.les; partial = s.partial }
-  one_more s (Copy (Drop name)) whole fit =
+      λ i. record { phase = phase_after s.phase (Recover (Put name size bytes attrs)); objects = (ap (replayed g (put s.base name (Some (brought size bytes attrs)))) none.1 ∙ sym (ap (λ es. put (replayed g s.base es) name (Some (brought size bytes attrs))) none.1)) i; log = based_told s (put s.base name (Some (brought size bytes attrs))) none s.tail s.firm i; tail = s.tail; firm = s.firm; head = head s; les = s.les; partial = s.partial }
+  one_more s (Recover (Drop name)) whole fit =
       let none = whole.alone fit in
-      λ i. record { phase = phase_after s.phase (Copy (Drop name)); objects = (ap (replayed g (put s.base name None)) none.1 ∙ sym (ap (λ es. put (replayed g s.base es) name None) none.1)) i; log = based_told s (put s.base name None) none s.tail s.firm i; tail = s.tail; firm = s.firm; head = head s; les = s.les; partial = s.partial }
-  one_more s (Copy Clear) whole fit =
+      λ i. record { phase = phase_after s.phase (Recover (Drop name)); objects = (ap (replayed g (put s.base name None)) none.1 ∙ sym (ap (λ es. put (replayed g s.base es) name None) none.1)) i; log = based_told s (put s.base name None) none s.tail s.firm i; tail = s.tail; firm = s.firm; head = head s; les = s.les; partial = s.partial }
+  one_more s (Recover Clear) whole fit =
       let none = whole.alone fit in
-      λ i. record { phase = phase_after s.phase (Copy Clear); objects = ap (replayed g fin.empty) none.1 i; log = based_told s fin.empty none s.tail s.firm i; tail = s.tail; firm = s.firm; head = head s; les = s.les; partial = s.partial }
-  one_more s (Copy (Reset v epoch)) whole fit =
+      λ i. record { phase = phase_after s.phase (Recover Clear); objects = ap (replayed g fin.empty) none.1 i; log = based_told s fin.empty none s.tail s.firm i; tail = s.tail; firm = s.firm; head = head s; les = s.les; partial = s.partial }
+  one_more s (Recover (Reset v epoch)) whole fit =
       let none = whole.alone (and_parts s.partial _ fit).0 in
-      λ i. record { phase = phase_after s.phase (Copy (Reset v epoch)); objects = replayed g s.base s.entries; log = based_told s s.base none v v i; tail = v; firm = v; head = ap (last_version v) none.1 i; les = epoch; partial = false }
+      λ i. record { phase = phase_after s.phase (Recover (Reset v epoch)); objects = replayed g s.base s.entries; log = based_told s s.base none v v i; tail = v; firm = v; head = ap (last_version v) none.1 i; les = epoch; partial = false }
 
   rising-append : (v : Version) (es : List Entry) (e : Entry) → AreRising v es → is_up_to e.version (last_version v es) ≡ false → AreRising v (es ++ e ∷ [])
   rising-append v [] e rising above = (above, tt)
@@ -239,7 +239,7 @@ module _ (g : Geometry) (positive : 0 < g.k * g.unit) where
       }
 
   pub whole_after : (s : Replay) (step : Step) → IsWhole g s → fits g (state_of g s) step ≡ true → IsWhole g (replay_after g s step)
-  whole_after s (Enter e) whole fit =
+  whole_after s (Log e) whole fit =
       let parts = and_parts (follows (state_of g s) e) _ fit in
       let above = above_head s e parts.0 in
       let last = ReplayLemmas.last-append g positive s.base_version s.entries e in
@@ -258,7 +258,7 @@ module _ (g : Geometry) (positive : 0 < g.k * g.unit) where
         base_known = whole.base_known;
         alone = λ p. absurd (false≢true (sym (not-true s.partial (and_parts (not s.partial) _ parts.0).0) ∙ p));
       }
-  whole_after s (Rule (Back v)) whole fit =
+  whole_after s (Control (Back v)) whole fit =
       let running = not-true s.partial (and_parts (not s.partial) _ fit).0 in
       let held : holds (state_of g s) v ≡ true = (and_parts (not s.partial) _ fit).1 in
       let low = known_low s v (and_parts _ _ held).0 in
@@ -277,7 +277,7 @@ module _ (g : Geometry) (positive : 0 < g.k * g.unit) where
         base_known = whole.base_known;
         alone = λ p. absurd (false≢true (sym running ∙ p));
       }
-  whole_after s (Rule (Firm v)) whole fit =
+  whole_after s (Control (Firm v)) whole fit =
       let running = not-true s.partial (and_parts (not s.partial) _ fit).0 in
       let held : holds (state_of g s) v ≡ true = (and_parts (not s.partial) _ fit).1 in
       let firm : is_up_to s.firm v ≡ true = (and_parts _ _ held).1 in
@@ -295,7 +295,7 @@ module _ (g : Geometry) (positive : 0 < g.k * g.unit) where
         base_known = whole.base_known;
         alone = whole.alone;
       }
-  whole_after s (Rule (Trim v)) whole fit =
+  whole_after s (Control (Trim v)) whole fit =
       let parts = and_parts (is_known (state_of g s) v) (is_up_to v s.firm) (and_parts (not s.partial) _ fit).1 in
       record {
         held = whole.held;
@@ -313,9 +313,9 @@ module _ (g : Geometry) (positive : 0 < g.k * g.unit) where
         ];
         alone = whole.alone;
       }
-  whole_after s (Rule (Started epoch)) whole fit =
+  whole_after s (Control (Started epoch)) whole fit =
       record { held = whole.held; rising = whole.rising; fitting = whole.fitting; old = whole.old; closed = whole.closed; tail_known = whole.tail_known; tail_low = whole.tail_low; firm_low = whole.firm_low; based = whole.based; base_known = whole.base_known; alone = whole.alone }
-  whole_after s (Rule Partial) whole fit =
+  whole_after s (Control Partial) whole fit =
       record {
         held = ReplayLemmas.replayed_held g positive s.base s.entries whole.held whole.fitting;
         rising = tt;
@@ -329,7 +329,7 @@ module _ (g : Geometry) (positive : 0 < g.k * g.unit) where
         base_known = λ p. absurd (true≢false p);
         alone = λ p. (refl, refl);
       }
-  whole_after s (Copy (Put name size bytes attrs)) whole fit =
+  whole_after s (Recover (Put name size bytes attrs)) whole fit =
       let parts = and_parts s.partial _ fit in
       let rest = and_parts (length bytes == shard_len g size) (are_attrs attrs) (and_parts (nat_le size max_size) _ parts.1).1 in
       let lists = and_parts (nat_le (length attrs) max_attrs) _ rest.1 in
@@ -337,9 +337,9 @@ module _ (g : Geometry) (positive : 0 < g.k * g.unit) where
       let short = pairs_short attrs (and_parts (fin.is_sorted (slice_cmp nat_cmp) attrs) (list_all is_short attrs) lists.1).1 in
       let brings : IsHeld g (brought size bytes attrs) = record { small = leb-true size max_size (and_parts (nat_le size max_size) _ parts.1).0; sized = eqb-true (length bytes) (shard_len g size) rest.0; few = omega (arith, few, few_pairs attrs); short = short } in
       new_base s _ (put s.base name (Some (brought size bytes attrs))) whole parts.0 (ReplayLemmas.put_held g positive s.base name (Some (brought size bytes attrs)) whole.held brings)
-  whole_after s (Copy (Drop name)) whole fit = new_base s _ (put s.base name None) whole fit (ReplayLemmas.put_held g positive s.base name None whole.held tt)
-  whole_after s (Copy Clear) whole fit = new_base s _ fin.empty whole fit (λ q. subst (MayBeHeld g) (sym (fin.get-empty _ q)) tt)
-  whole_after s (Copy (Reset v epoch)) whole fit =
+  whole_after s (Recover (Drop name)) whole fit = new_base s _ (put s.base name None) whole fit (ReplayLemmas.put_held g positive s.base name None whole.held tt)
+  whole_after s (Recover Clear) whole fit = new_base s _ fin.empty whole fit (λ q. subst (MayBeHeld g) (sym (fin.get-empty _ q)) tt)
+  whole_after s (Recover (Reset v epoch)) whole fit =
       let none = whole.alone (and_parts s.partial _ fit).0 in
       record {
         held = whole.held;

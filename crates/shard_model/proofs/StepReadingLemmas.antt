@@ -7,7 +7,7 @@ use Rattle.std.proofs.lemmas.Bool.{eqb-true}
 use Rattle.ec_model.specs.Versions.{Version}
 use Rattle.ec_words.specs.Names.{is_name, is_name_byte}
 use Rattle.shard_model.specs.Changes.{Change, Write, Replace, Remove, SetAttr, RemoveAttr}
-use Rattle.shard_model.specs.Steps.{Back, Firm, Trim, Started, Partial, Put, Drop, Clear, Reset, Step, Enter, Rule, Copy}
+use Rattle.shard_model.specs.Steps.{Back, Firm, Trim, Started, Partial, Put, Drop, Clear, Reset, Step, Log, Control, Recover}
 use Rattle.shard_model.specs.StepBytes.{version_bytes, name_bytes, pair_bytes, pairs_bytes, head_bytes, step_bytes, HasWords, IsName, IsPair, ArePairs, IsWritableChange, IsWritable}
 use Rattle.shard_model.specs.StepReading.{AreBytes, IsReadingOf, mapped, both, read_byte, read_u32, read_list, if_name, read_named, read_name, read_counted, read_version, read_pair, pushed, read_pairs, read_attrs, read_head, entry_of, write_of, replace_of, set_attr_of, put_of, reset_of, removed_of, read_write, read_replace, read_remove, read_set_attr, read_remove_attr, read_started, read_put, read_drop, read_reset, read_kind, read_step}
 use Rattle.shard_model.proofs.ReadingLemmas.{same_read, not_read, parts, on, both_reading, counted_reading, with_has, byte_reading, list_reading, u32_reading, mapped_reads}
@@ -126,10 +126,10 @@ module _ (text : List ℕ) (s : Step) (rest : List ℕ) (all : AreBytes text) wh
   of_version kind step bytes has e = mapped_reads step read_version version_reading step_bytes IsWritable (kind ∷ []) bytes has text s rest all e
 
   of_started : read_started text ≡ Some (s, rest) → Spells 7
-  of_started e = mapped_reads (λ epoch. Rule (Started epoch)) read_u32 u32_reading step_bytes IsWritable (7 ∷ []) (λ x. refl) (λ x has. has) text s rest all e
+  of_started e = mapped_reads (λ epoch. Control (Started epoch)) read_u32 u32_reading step_bytes IsWritable (7 ∷ []) (λ x. refl) (λ x has. has) text s rest all e
 
   of_drop : read_drop text ≡ Some (s, rest) → Spells 12
-  of_drop e = mapped_reads (λ name. Copy (Drop name)) read_name name_reading step_bytes IsWritable (12 ∷ []) (λ x. refl) (λ x has. has) text s rest all e
+  of_drop e = mapped_reads (λ name. Recover (Drop name)) read_name name_reading step_bytes IsWritable (12 ∷ []) (λ x. refl) (λ x has. has) text s rest all e
 
   of_nothing : (kind : ℕ) (step : Step) → step_bytes step ≡ kind ∷ [] → IsWritable step → ◌≡◌ {A = Option (Step × List ℕ)} (Some (step, text)) (Some (s, rest)) → Spells kind
   of_nothing kind step bytes has e =
@@ -152,19 +152,19 @@ module _ (text : List ℕ) (s : Step) (rest : List ℕ) (all : AreBytes text) wh
       (by_kind kind 3 _ _ of_remove
       (by_kind kind 4 _ _ of_set_attr
       (by_kind kind 5 _ _ of_remove_attr
-      (by_kind kind 6 _ _ (of_version 6 (λ v. Rule (Back v)) (λ v. refl) (λ v has. has))
+      (by_kind kind 6 _ _ (of_version 6 (λ v. Control (Back v)) (λ v. refl) (λ v has. has))
       (by_kind kind 7 _ _ of_started
-      (by_kind kind 8 _ _ (of_version 8 (λ v. Rule (Firm v)) (λ v. refl) (λ v has. has))
-      (by_kind kind 9 _ _ (of_version 9 (λ v. Rule (Trim v)) (λ v. refl) (λ v has. has))
-      (by_kind kind 10 _ _ (of_nothing 10 (Rule Partial) refl tt)
+      (by_kind kind 8 _ _ (of_version 8 (λ v. Control (Firm v)) (λ v. refl) (λ v has. has))
+      (by_kind kind 9 _ _ (of_version 9 (λ v. Control (Trim v)) (λ v. refl) (λ v has. has))
+      (by_kind kind 10 _ _ (of_nothing 10 (Control Partial) refl tt)
       (by_kind kind 11 _ _ of_put
       (by_kind kind 12 _ _ of_drop
-      (by_kind kind 13 _ _ (of_nothing 13 (Copy Clear) refl tt)
+      (by_kind kind 13 _ _ (of_nothing 13 (Recover Clear) refl tt)
       (by_kind kind 14 _ _ of_reset (λ e. absurd (not_read s rest e)))))))))))))))
 
 -- an entry's bytes, behind its kind
 spelled_entry : (version prior : Version) (name : List ℕ) (c : Change) (rest : List ℕ) → (HasWords version × (HasWords prior × IsName name)) × IsWritableChange c
-    → read_step (step_bytes (Enter (record { version = version; prior = prior; name = name; change = c })) ++ rest) ≡ Some (Enter (record { version = version; prior = prior; name = name; change = c }), rest)
+    → read_step (step_bytes (Log (record { version = version; prior = prior; name = name; change = c })) ++ rest) ≡ Some (Log (record { version = version; prior = prior; name = name; change = c }), rest)
 spelled_entry version prior name (Write fresh size at bytes) rest has =
     on (both read_head (both read_byte (both read_u32 (both read_u32 read_counted))))
     (both_reading read_head (both read_byte (both read_u32 (both read_u32 read_counted))) head_reading
@@ -187,20 +187,20 @@ spelled_entry version prior name (RemoveAttr attr) rest has =
 
 -- each step's bytes, behind its kind
 spelled : (s : Step) (rest : List ℕ) → IsWritable s → read_step (step_bytes s ++ rest) ≡ Some (s, rest)
-spelled (Enter e) rest has = spelled_entry e.version e.prior e.name e.change rest has
-spelled (Rule (Back v)) rest has = on read_version version_reading (λ x rest. Some (Rule (Back x), rest)) v rest has
-spelled (Rule (Started epoch)) rest has = on read_u32 u32_reading (λ x rest. Some (Rule (Started x), rest)) epoch rest has
-spelled (Rule (Firm v)) rest has = on read_version version_reading (λ x rest. Some (Rule (Firm x), rest)) v rest has
-spelled (Rule (Trim v)) rest has = on read_version version_reading (λ x rest. Some (Rule (Trim x), rest)) v rest has
-spelled (Rule Partial) rest has = refl
-spelled (Copy (Put name size bytes attrs)) rest has =
+spelled (Log e) rest has = spelled_entry e.version e.prior e.name e.change rest has
+spelled (Control (Back v)) rest has = on read_version version_reading (λ x rest. Some (Control (Back x), rest)) v rest has
+spelled (Control (Started epoch)) rest has = on read_u32 u32_reading (λ x rest. Some (Control (Started x), rest)) epoch rest has
+spelled (Control (Firm v)) rest has = on read_version version_reading (λ x rest. Some (Control (Firm x), rest)) v rest has
+spelled (Control (Trim v)) rest has = on read_version version_reading (λ x rest. Some (Control (Trim x), rest)) v rest has
+spelled (Control Partial) rest has = refl
+spelled (Recover (Put name size bytes attrs)) rest has =
     on (both read_name (both read_u32 (both read_counted read_attrs)))
     (both_reading read_name (both read_u32 (both read_counted read_attrs)) name_reading
     (both_reading read_u32 (both read_counted read_attrs) u32_reading (both_reading read_counted read_attrs counted_list attrs_reading)))
     (λ x rest. Some (put_of x, rest)) (name, (size, (bytes, attrs))) rest has
-spelled (Copy (Drop name)) rest has = on read_name name_reading (λ x rest. Some (Copy (Drop x), rest)) name rest has
-spelled (Copy Clear) rest has = refl
-spelled (Copy (Reset v epoch)) rest has =
+spelled (Recover (Drop name)) rest has = on read_name name_reading (λ x rest. Some (Recover (Drop x), rest)) name rest has
+spelled (Recover Clear) rest has = refl
+spelled (Recover (Reset v epoch)) rest has =
     on (both read_version read_u32) (both_reading read_version read_u32 version_reading u32_reading) (λ x rest. Some (reset_of x, rest)) (v, epoch) rest has
 
 step_reads : (text : List ℕ) (s : Step) (rest : List ℕ) → AreBytes text → read_step text ≡ Some (s, rest) → IsWritable s × (text ≡ step_bytes s ++ rest)

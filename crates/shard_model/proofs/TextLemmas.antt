@@ -1,7 +1,7 @@
 -- Bytes are one list of steps, or have one first place where none is spelled.
 use Rattle.std.proofs.Common.{◌≡◌, ◌⊎◌, inl, inr, ◌≤◌, ℕ, zero, suc, List, [], ◌∷◌, ◌++◌, length, length-append, sym, ap, subst, ◌∙◌, refl, Some, None, arith, append_assoc}
 use Rattle.std.specs.List.{AllByRecursion}
-use Rattle.shard_model.specs.Steps.{Back, Firm, Trim, Started, Partial, Put, Drop, Clear, Reset, Step, Enter, Rule, Copy}
+use Rattle.shard_model.specs.Steps.{Back, Firm, Trim, Started, Partial, Put, Drop, Clear, Reset, Step, Log, Control, Recover}
 use Rattle.shard_model.specs.StepBytes.{step_bytes, steps_bytes, IsWritable, BeginsWith, AreSteps, IsFirstBad}
 use Rattle.shard_model.specs.StepReading.{AreBytes, read_step}
 use Rattle.shard_model.specs.Laws.{IsReadOneWay}
@@ -62,16 +62,16 @@ one_bad text a b one two =
 
 -- each step has a byte at least, its kind
 step_has_kind : (step : Step) → 1 ≤ length (step_bytes step)
-step_has_kind (Enter e) = omega arith
-step_has_kind (Rule (Back v)) = omega arith
-step_has_kind (Rule (Started epoch)) = omega arith
-step_has_kind (Rule (Firm v)) = omega arith
-step_has_kind (Rule (Trim v)) = omega arith
-step_has_kind (Rule Partial) = omega arith
-step_has_kind (Copy (Put name size bytes attrs)) = omega arith
-step_has_kind (Copy (Drop name)) = omega arith
-step_has_kind (Copy Clear) = omega arith
-step_has_kind (Copy (Reset v epoch)) = omega arith
+step_has_kind (Log e) = omega arith
+step_has_kind (Control (Back v)) = omega arith
+step_has_kind (Control (Started epoch)) = omega arith
+step_has_kind (Control (Firm v)) = omega arith
+step_has_kind (Control (Trim v)) = omega arith
+step_has_kind (Control Partial) = omega arith
+step_has_kind (Recover (Put name size bytes attrs)) = omega arith
+step_has_kind (Recover (Drop name)) = omega arith
+step_has_kind (Recover Clear) = omega arith
+step_has_kind (Recover (Reset v epoch)) = omega arith
 
 -- what one_way says of a text first
 abbrev Either : List ℕ → Type 0

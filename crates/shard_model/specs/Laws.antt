@@ -4,7 +4,7 @@ use Rattle.ec_model.specs.Versions.{Version, is_up_to, zero_version}
 use Rattle.std.specs.FinMap as fin
 use Rattle.shard_model.specs.Objects.{ShardObject, Geometry, IsHeld, shard_len}
 use Rattle.shard_model.specs.Changes.{Change, Write, Replace, SetAttr, RemoveAttr, Extent, bytes_of, changed, undo_of, restored}
-use Rattle.shard_model.specs.Steps.{Step, Enter, Rule, Copy, Control, Back, Started, Put, Entry}
+use Rattle.shard_model.specs.Steps.{Step, Log, Control, Recover, ControlStep, Back, Started, Put, Entry}
 use Rattle.shard_model.specs.States.{State, fits, state_after, is_known, holds, brought}
 use Rattle.shard_model.specs.StepBytes.{change_bytes, step_bytes, steps_bytes, IsName, IsWritable, AreSteps, IsFirstBad}
 use Rattle.shard_model.specs.StepReading.{AreBytes, IsReadingOf, read_step}
@@ -56,23 +56,23 @@ HeadIsHeld = (g : Geometry) (s : Replay) → 0 < g.k * g.unit → IsWhole g s �
 
 -- rolling back to a version gives the objects at it, and it is the head then
 abbrev pub GoingBackGivesThePast : Type 0
-GoingBackGivesThePast = (g : Geometry) (s : Replay) (v : Version) → MayGoOn g s (Rule (Back v))
-    → ((state_after g (state_of g s) (Rule (Back v))).objects ≡ objects_at g s v) × (head (replay_after g s (Rule (Back v))) ≡ v)
+GoingBackGivesThePast = (g : Geometry) (s : Replay) (v : Version) → MayGoOn g s (Control (Back v))
+    → ((state_after g (state_of g s) (Control (Back v))).objects ≡ objects_at g s v) × (head (replay_after g s (Control (Back v))) ≡ v)
 
 -- after an entry each version that was held is held, with its objects, and no other but the new one
 pub record KeepsHeld (g : Geometry) (s : Replay) (e : Entry) : Type 0 where
-  pub stay : (v : Version) → holds (state_of g s) v ≡ true → holds (state_of g (replay_after g s (Enter e))) v ≡ true
-  pub only : (v : Version) → holds (state_of g (replay_after g s (Enter e))) v ≡ true → (holds (state_of g s) v ≡ true) ⊎ (e.version ≡ v)
-  pub objects : (v : Version) → holds (state_of g s) v ≡ true → objects_at g (replay_after g s (Enter e)) v ≡ objects_at g s v
+  pub stay : (v : Version) → holds (state_of g s) v ≡ true → holds (state_of g (replay_after g s (Log e))) v ≡ true
+  pub only : (v : Version) → holds (state_of g (replay_after g s (Log e))) v ≡ true → (holds (state_of g s) v ≡ true) ⊎ (e.version ≡ v)
+  pub objects : (v : Version) → holds (state_of g s) v ≡ true → objects_at g (replay_after g s (Log e)) v ≡ objects_at g s v
 
 abbrev pub EntriesKeepHeld : Type 0
-EntriesKeepHeld = (g : Geometry) (s : Replay) (e : Entry) → MayGoOn g s (Enter e) → KeepsHeld g s e
+EntriesKeepHeld = (g : Geometry) (s : Replay) (e : Entry) → MayGoOn g s (Log e) → KeepsHeld g s e
 
 -- after rolling back, what is held was held, and its objects are the same
 abbrev pub GoingBackKeepsThePast : Type 0
-GoingBackKeepsThePast = (g : Geometry) (s : Replay) (w v : Version) → MayGoOn g s (Rule (Back w))
-    → holds (state_of g (replay_after g s (Rule (Back w)))) v ≡ true
-    → (holds (state_of g s) v ≡ true) × (objects_at g (replay_after g s (Rule (Back w))) v ≡ objects_at g s v)
+GoingBackKeepsThePast = (g : Geometry) (s : Replay) (w v : Version) → MayGoOn g s (Control (Back w))
+    → holds (state_of g (replay_after g s (Control (Back w)))) v ≡ true
+    → (holds (state_of g s) v ≡ true) × (objects_at g (replay_after g s (Control (Back w))) v ≡ objects_at g s v)
 
 -- a step is read off its bytes, and off no others
 abbrev pub StepsAreRead : Type 0
@@ -91,19 +91,19 @@ BytesAreReadOneWay = (text : List ℕ) → AreBytes text → IsReadOneWay text
 -- how many bytes a step has: an entry 281 at most beside those of its change, a control step 13 at most, an object that is
 -- brought 279,050 at most beside its own
 pub record StepLengths : Type 0 where
-  pub entry : (e : Entry) → length (step_bytes (Enter e)) ≡ 26 + (length e.name + length (change_bytes e.change))
-  pub bounded : (e : Entry) → IsName e.name → length (step_bytes (Enter e)) ≤ 281 + length (change_bytes e.change)
+  pub entry : (e : Entry) → length (step_bytes (Log e)) ≡ 26 + (length e.name + length (change_bytes e.change))
+  pub bounded : (e : Entry) → IsName e.name → length (step_bytes (Log e)) ≤ 281 + length (change_bytes e.change)
   pub write : (fresh size at : ℕ) (bytes : List ℕ) → length (change_bytes (Write fresh size at bytes)) ≡ 13 + length bytes
   pub replace : (size : ℕ) (bytes : List ℕ) → length (change_bytes (Replace size bytes)) ≡ 8 + length bytes
   pub set_attr : (attr value : List ℕ) → length (change_bytes (SetAttr attr value)) ≡ 5 + (length attr + length value)
   pub remove_attr : (attr : List ℕ) → length (change_bytes (RemoveAttr attr)) ≡ 1 + length attr
-  pub control : (c : Control) → length (step_bytes (Rule c)) ≤ 13
-  pub put : (g : Geometry) (s : State) (name : List ℕ) (size : ℕ) (bytes : List ℕ) (attrs : List (List ℕ × List ℕ)) → IsWritable (Copy (Put name size bytes attrs))
-      → fits g s (Copy (Put name size bytes attrs)) ≡ true → length (step_bytes (Copy (Put name size bytes attrs))) ≤ 279050 + shard_len g size
+  pub control : (c : ControlStep) → length (step_bytes (Control c)) ≤ 13
+  pub put : (g : Geometry) (s : State) (name : List ℕ) (size : ℕ) (bytes : List ℕ) (attrs : List (List ℕ × List ℕ)) → IsWritable (Recover (Put name size bytes attrs))
+      → fits g s (Recover (Put name size bytes attrs)) ≡ true → length (step_bytes (Recover (Put name size bytes attrs))) ≤ 279050 + shard_len g size
 
 -- an object of any shard fits where it is brought to one that is being filled, and is what is brought
 pub record MayBeBrought (g : Geometry) (name : List ℕ) (o : ShardObject) : Type 0 where
-  pub fit : (s : State) → s.partial ≡ true → fits g s (Copy (Put name o.size o.bytes (fin.entries o.attrs))) ≡ true
+  pub fit : (s : State) → s.partial ≡ true → fits g s (Recover (Put name o.size o.bytes (fin.entries o.attrs))) ≡ true
   pub same : brought o.size o.bytes (fin.entries o.attrs) ≡ o
 
 abbrev pub HeldObjectsMayBeBrought : Type 0
@@ -113,7 +113,7 @@ HeldObjectsMayBeBrought = (g : Geometry) (name : List ℕ) (o : ShardObject) →
 -- stands in the three slots after `full a 0102` in epoch 2
 abbrev pub example_step : List ℕ → Step
 example_step bytes =
-    Enter (record {
+    Log (record {
       version = record { epoch = 2; seq = 1 };
       prior = zero_version;
       name = 97 ∷ [];
@@ -125,7 +125,7 @@ example_front =
     2 ∷ 0 ∷ 0 ∷ 0 ∷ 2 ∷ 0 ∷ 0 ∷ 0 ∷ 0 ∷ 0 ∷ 0 ∷ 0 ∷ 1 ∷ 0 ∷ 0 ∷ 0 ∷ 0 ∷ 0 ∷ 0 ∷ 0 ∷ 0 ∷ 0 ∷ 0 ∷ 0 ∷ 0 ∷ 1 ∷ 97 ∷ 0 ∷ 0 ∷ 0 ∷ 2 ∷ 0 ∷ 0 ∷ 0 ∷ 32 ∷ []
 
 pub record WorkedBytes : Type 0 where
-  pub started : steps_bytes (Rule (Started 1) ∷ []) ≡ 7 ∷ 0 ∷ 0 ∷ 0 ∷ 1 ∷ []
+  pub started : steps_bytes (Control (Started 1) ∷ []) ≡ 7 ∷ 0 ∷ 0 ∷ 0 ∷ 1 ∷ []
   pub with_data : steps_bytes (example_step (1 ∷ 2 ∷ replicate 30 0) ∷ []) ≡ example_front ++ (1 ∷ 2 ∷ replicate 30 0)
   pub with_zeros : steps_bytes (example_step (replicate 32 0) ∷ []) ≡ example_front ++ replicate 32 0
   pub long : length (steps_bytes (example_step (replicate 32 0) ∷ [])) ≡ 67

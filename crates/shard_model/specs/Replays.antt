@@ -6,7 +6,7 @@ use Rattle.ec_model.specs.Versions.{Version, is_up_to, is_same, zero_version}
 use Rattle.shard_model.specs.Fronts.{up_to, after}
 use Rattle.shard_model.specs.Objects.{ShardObjects, Geometry, put, AreHeld}
 use Rattle.shard_model.specs.Changes.{Settled, fits_change}
-use Rattle.shard_model.specs.Steps.{Entry, Back, Firm, Trim, Started, Partial, Put, Drop, Clear, Reset, Step, Enter, Rule, Copy}
+use Rattle.shard_model.specs.Steps.{Entry, Back, Firm, Trim, Started, Partial, Put, Drop, Clear, Reset, Step, Log, Control, Recover}
 use Rattle.shard_model.specs.States.{Phase, Unbegun, phase_after, State, Logged, version_of, effect, logged, settled, fits, brought}
 
 -- `base`: the objects at the version `base_version`; `past`: checkpointed entries, which the base holds already; `entries`:
@@ -66,22 +66,22 @@ state_of g s = record {
 
 -- what a step does to all but the phase
 abbrev pub replay_moved : Geometry → Replay → Step → Replay
-replay_moved g s (Enter e) = record s { entries = s.entries ++ e ∷ [] }
-replay_moved g s (Rule (Back v)) = record s { entries = up_to entry_version v s.entries }
-replay_moved g s (Rule (Firm v)) = record s { firm = v }
-replay_moved g s (Rule (Trim v)) = record s { tail = v }
-replay_moved g s (Rule (Started epoch)) = record s { les = epoch }
-replay_moved g s (Rule Partial) = record s {
+replay_moved g s (Log e) = record s { entries = s.entries ++ e ∷ [] }
+replay_moved g s (Control (Back v)) = record s { entries = up_to entry_version v s.entries }
+replay_moved g s (Control (Firm v)) = record s { firm = v }
+replay_moved g s (Control (Trim v)) = record s { tail = v }
+replay_moved g s (Control (Started epoch)) = record s { les = epoch }
+replay_moved g s (Control Partial) = record s {
   base = replayed g s.base s.entries;
   base_version = head s;
   past = [];
   entries = [];
   partial = true;
 }
-replay_moved g s (Copy (Put name size bytes attrs)) = record s { base = put s.base name (Some (brought size bytes attrs)) }
-replay_moved g s (Copy (Drop name)) = record s { base = put s.base name None }
-replay_moved g s (Copy Clear) = record s { base = fin.empty }
-replay_moved g s (Copy (Reset v epoch)) = record s { base_version = v; tail = v; firm = v; les = epoch; partial = false }
+replay_moved g s (Recover (Put name size bytes attrs)) = record s { base = put s.base name (Some (brought size bytes attrs)) }
+replay_moved g s (Recover (Drop name)) = record s { base = put s.base name None }
+replay_moved g s (Recover Clear) = record s { base = fin.empty }
+replay_moved g s (Recover (Reset v epoch)) = record s { base_version = v; tail = v; firm = v; les = epoch; partial = false }
 
 -- the replay with one step more
 abbrev pub replay_after : Geometry → Replay → Step → Replay

@@ -10,7 +10,7 @@ use Rattle.shard_model.specs.Limits.{max_size, max_value, max_attrs, seq_limit}
 use Rattle.shard_model.specs.Fronts.{up_to, after}
 use Rattle.shard_model.specs.Objects.{ShardObject, ShardObjects, Geometry, put, shard_len}
 use Rattle.shard_model.specs.Changes.{Kind, kind_of, Undo, Settled, fits_change, changed, undo_of, restored}
-use Rattle.shard_model.specs.Steps.{Entry, Back, Firm, Trim, Started, Partial, Put, Drop, Clear, Reset, Step, Enter, Rule, Copy}
+use Rattle.shard_model.specs.Steps.{Entry, Back, Firm, Trim, Started, Partial, Put, Drop, Clear, Reset, Step, Log, Control, Recover}
 
 -- an entry as the log keeps it
 pub record Logged : Type 0 where
@@ -90,17 +90,17 @@ are_attrs attrs =
 
 -- the step may come in this state
 abbrev pub fits : Geometry → State → Step → Bool
-fits g s (Enter e) = follows s e && fits_change g e.change (fin.get s.objects e.name)
-fits g s (Rule (Back v)) = not s.partial && holds s v
-fits g s (Rule (Firm v)) = not s.partial && holds s v
-fits g s (Rule (Trim v)) = not s.partial && (is_known s v && is_up_to v s.firm)
-fits g s (Rule (Started epoch)) = not s.partial && nat_lt s.les epoch
-fits g s (Rule Partial) = true
-fits g s (Copy (Put name size bytes attrs)) =
+fits g s (Log e) = follows s e && fits_change g e.change (fin.get s.objects e.name)
+fits g s (Control (Back v)) = not s.partial && holds s v
+fits g s (Control (Firm v)) = not s.partial && holds s v
+fits g s (Control (Trim v)) = not s.partial && (is_known s v && is_up_to v s.firm)
+fits g s (Control (Started epoch)) = not s.partial && nat_lt s.les epoch
+fits g s (Control Partial) = true
+fits g s (Recover (Put name size bytes attrs)) =
     s.partial && (nat_le size max_size && (length bytes == shard_len g size && are_attrs attrs))
-fits g s (Copy (Drop name)) = s.partial
-fits g s (Copy Clear) = s.partial
-fits g s (Copy (Reset v epoch)) = s.partial && nat_lt v.seq seq_limit
+fits g s (Recover (Drop name)) = s.partial
+fits g s (Recover Clear) = s.partial
+fits g s (Recover (Reset v epoch)) = s.partial && nat_lt v.seq seq_limit
 
 -- the object that a `Put` brings
 abbrev pub brought : ℕ → List ℕ → List (List ℕ × List ℕ) → ShardObject
@@ -108,19 +108,19 @@ brought size bytes attrs = record { bytes = bytes; size = size; attrs = fin.from
 
 -- what a step does to all but the phase
 abbrev pub moved : Geometry → State → Step → State
-moved g s (Enter e) =
+moved g s (Log e) =
     record s { objects = effect g s.objects e; log = s.log ++ logged s.objects e ∷ []; head = e.version }
-moved g s (Rule (Back v)) =
+moved g s (Control (Back v)) =
     record s { objects = undone g s.objects (after version_of v s.log); log = up_to version_of v s.log; head = v }
-moved g s (Rule (Firm v)) = record s { log = map (settled v) s.log; firm = v }
-moved g s (Rule (Trim v)) = record s { log = after version_of v s.log; tail = v }
-moved g s (Rule (Started epoch)) = record s { les = epoch }
-moved g s (Rule Partial) = record s { log = []; partial = true }
-moved g s (Copy (Put name size bytes attrs)) =
+moved g s (Control (Firm v)) = record s { log = map (settled v) s.log; firm = v }
+moved g s (Control (Trim v)) = record s { log = after version_of v s.log; tail = v }
+moved g s (Control (Started epoch)) = record s { les = epoch }
+moved g s (Control Partial) = record s { log = []; partial = true }
+moved g s (Recover (Put name size bytes attrs)) =
     record s { objects = put s.objects name (Some (brought size bytes attrs)) }
-moved g s (Copy (Drop name)) = record s { objects = put s.objects name None }
-moved g s (Copy Clear) = record s { objects = fin.empty }
-moved g s (Copy (Reset v epoch)) = record s { tail = v; firm = v; head = v; les = epoch; partial = false }
+moved g s (Recover (Drop name)) = record s { objects = put s.objects name None }
+moved g s (Recover Clear) = record s { objects = fin.empty }
+moved g s (Recover (Reset v epoch)) = record s { tail = v; firm = v; head = v; les = epoch; partial = false }
 
 -- the state after a step
 abbrev pub state_after : Geometry → State → Step → State

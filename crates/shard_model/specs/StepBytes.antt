@@ -7,7 +7,7 @@ use Rattle.ec_words.specs.Names.{is_name}
 unfoldable pub use Rattle.ec_words.specs.Readers.{version_bytes}
 pub use Rattle.ec_words.specs.Readers.{counted_bytes, IsWord, HasWords, IsCounted}
 use Rattle.shard_model.specs.Changes.{Change, Write, Replace, Remove, SetAttr, RemoveAttr}
-use Rattle.shard_model.specs.Steps.{Back, Firm, Trim, Started, Partial, Put, Drop, Clear, Reset, Step, Enter, Rule, Copy}
+use Rattle.shard_model.specs.Steps.{Back, Firm, Trim, Started, Partial, Put, Drop, Clear, Reset, Step, Log, Control, Recover}
 
 -- the length in a byte, and the name
 abbrev pub name_bytes : List ℕ → List ℕ
@@ -44,17 +44,17 @@ change_number (RemoveAttr attr) = 5
 
 -- a step: its kind in a byte, and its fields
 abbrev pub step_bytes : Step → List ℕ
-step_bytes (Enter e) = change_number e.change ∷ head_bytes (e.version, (e.prior, e.name)) ++ change_bytes e.change
-step_bytes (Rule (Back v)) = 6 ∷ version_bytes v
-step_bytes (Rule (Started epoch)) = 7 ∷ bytes_high_first 4 epoch
-step_bytes (Rule (Firm v)) = 8 ∷ version_bytes v
-step_bytes (Rule (Trim v)) = 9 ∷ version_bytes v
-step_bytes (Rule Partial) = 10 ∷ []
-step_bytes (Copy (Put name size bytes attrs)) =
+step_bytes (Log e) = change_number e.change ∷ head_bytes (e.version, (e.prior, e.name)) ++ change_bytes e.change
+step_bytes (Control (Back v)) = 6 ∷ version_bytes v
+step_bytes (Control (Started epoch)) = 7 ∷ bytes_high_first 4 epoch
+step_bytes (Control (Firm v)) = 8 ∷ version_bytes v
+step_bytes (Control (Trim v)) = 9 ∷ version_bytes v
+step_bytes (Control Partial) = 10 ∷ []
+step_bytes (Recover (Put name size bytes attrs)) =
     11 ∷ name_bytes name ++ (bytes_high_first 4 size ++ (counted_bytes bytes ++ pairs_bytes attrs))
-step_bytes (Copy (Drop name)) = 12 ∷ name_bytes name
-step_bytes (Copy Clear) = 13 ∷ []
-step_bytes (Copy (Reset v epoch)) = 14 ∷ version_bytes v ++ bytes_high_first 4 epoch
+step_bytes (Recover (Drop name)) = 12 ∷ name_bytes name
+step_bytes (Recover Clear) = 13 ∷ []
+step_bytes (Recover (Reset v epoch)) = 14 ∷ version_bytes v ++ bytes_high_first 4 epoch
 
 -- steps, one after another
 abbrev pub steps_bytes : List Step → List ℕ
@@ -87,25 +87,25 @@ HasShortBytes (RemoveAttr attr) = Unit {0}
 
 -- a step whose parts all have their place
 abbrev pub IsWritable : Step → Type 0
-IsWritable (Enter e) = (HasWords e.version × (HasWords e.prior × IsName e.name)) × IsWritableChange e.change
-IsWritable (Rule (Back v)) = HasWords v
-IsWritable (Rule (Started epoch)) = IsWord epoch
-IsWritable (Rule (Firm v)) = HasWords v
-IsWritable (Rule (Trim v)) = HasWords v
-IsWritable (Rule Partial) = Unit {0}
-IsWritable (Copy (Put name size bytes attrs)) = IsName name × (IsWord size × (IsCounted bytes × ArePairs attrs))
-IsWritable (Copy (Drop name)) = IsName name
-IsWritable (Copy Clear) = Unit {0}
-IsWritable (Copy (Reset v epoch)) = HasWords v × IsWord epoch
+IsWritable (Log e) = (HasWords e.version × (HasWords e.prior × IsName e.name)) × IsWritableChange e.change
+IsWritable (Control (Back v)) = HasWords v
+IsWritable (Control (Started epoch)) = IsWord epoch
+IsWritable (Control (Firm v)) = HasWords v
+IsWritable (Control (Trim v)) = HasWords v
+IsWritable (Control Partial) = Unit {0}
+IsWritable (Recover (Put name size bytes attrs)) = IsName name × (IsWord size × (IsCounted bytes × ArePairs attrs))
+IsWritable (Recover (Drop name)) = IsName name
+IsWritable (Recover Clear) = Unit {0}
+IsWritable (Recover (Reset v epoch)) = HasWords v × IsWord epoch
 
 -- its lists are short enough to be counted
 abbrev pub HasShortLists : Step → Type 0
-HasShortLists (Enter e) = HasShortBytes e.change
-HasShortLists (Rule control) = Unit {0}
-HasShortLists (Copy (Put name size bytes attrs)) = IsCounted bytes × ((length attrs < 256) × AllByRecursion (λ attr. IsCounted attr.1) attrs)
-HasShortLists (Copy (Drop name)) = Unit {0}
-HasShortLists (Copy Clear) = Unit {0}
-HasShortLists (Copy (Reset v epoch)) = Unit {0}
+HasShortLists (Log e) = HasShortBytes e.change
+HasShortLists (Control control) = Unit {0}
+HasShortLists (Recover (Put name size bytes attrs)) = IsCounted bytes × ((length attrs < 256) × AllByRecursion (λ attr. IsCounted attr.1) attrs)
+HasShortLists (Recover (Drop name)) = Unit {0}
+HasShortLists (Recover Clear) = Unit {0}
+HasShortLists (Recover (Reset v epoch)) = Unit {0}
 
 -- a text begins with the bytes of a step
 abbrev pub BeginsWith : List ℕ → Step → List ℕ → Type 0

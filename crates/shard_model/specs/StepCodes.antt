@@ -3,7 +3,7 @@ use Rattle.std.proofs.Common.{◌≡◌, ◌⊎◌, inl, inr, ℕ, List, refl}
 use Rattle.std.specs.Coded.{Coded, code_by, coded×, coded⊎, coded_ℕ, coded_list}
 use Rattle.ec_model.specs.Versions.{Version, version_code}
 use Rattle.shard_model.specs.Changes.{Change, Write, Replace, Remove, SetAttr, RemoveAttr}
-use Rattle.shard_model.specs.Steps.{Entry, Step, Enter, Rule, Copy, Back, Firm, Trim, Started, Partial, Put, Drop, Clear, Reset}
+use Rattle.shard_model.specs.Steps.{Entry, Step, Log, Control, Recover, Back, Firm, Trim, Started, Partial, Put, Drop, Clear, Reset}
 
 -- bytes
 abbrev pub coded_bytes : Coded (List ℕ)
@@ -58,40 +58,40 @@ rest_code =
 
 -- a step to its parts, and back
 abbrev pub step_parts : Step → Entry ⊎ RestParts
-step_parts (Enter e) = inl e
-step_parts (Rule (Back v)) = inr (inl (inl v))
-step_parts (Rule (Firm v)) = inr (inl (inr (inl v)))
-step_parts (Rule (Trim v)) = inr (inl (inr (inr (inl v))))
-step_parts (Rule (Started epoch)) = inr (inl (inr (inr (inr (inl epoch)))))
-step_parts (Rule Partial) = inr (inl (inr (inr (inr (inr 0)))))
-step_parts (Copy (Put name size bytes attrs)) = inr (inr (inl ((name, size), (bytes, attrs))))
-step_parts (Copy (Drop name)) = inr (inr (inr (inl name)))
-step_parts (Copy (Reset v epoch)) = inr (inr (inr (inr (inl (v, epoch)))))
-step_parts (Copy Clear) = inr (inr (inr (inr (inr 0))))
+step_parts (Log e) = inl e
+step_parts (Control (Back v)) = inr (inl (inl v))
+step_parts (Control (Firm v)) = inr (inl (inr (inl v)))
+step_parts (Control (Trim v)) = inr (inl (inr (inr (inl v))))
+step_parts (Control (Started epoch)) = inr (inl (inr (inr (inr (inl epoch)))))
+step_parts (Control Partial) = inr (inl (inr (inr (inr (inr 0)))))
+step_parts (Recover (Put name size bytes attrs)) = inr (inr (inl ((name, size), (bytes, attrs))))
+step_parts (Recover (Drop name)) = inr (inr (inr (inl name)))
+step_parts (Recover (Reset v epoch)) = inr (inr (inr (inr (inl (v, epoch)))))
+step_parts (Recover Clear) = inr (inr (inr (inr (inr 0))))
 
 abbrev pub step_from : Entry ⊎ RestParts → Step
-step_from (inl e) = Enter e
-step_from (inr (inl (inl v))) = Rule (Back v)
-step_from (inr (inl (inr (inl v)))) = Rule (Firm v)
-step_from (inr (inl (inr (inr (inl v))))) = Rule (Trim v)
-step_from (inr (inl (inr (inr (inr (inl epoch)))))) = Rule (Started epoch)
-step_from (inr (inl (inr (inr (inr (inr n)))))) = Rule Partial
-step_from (inr (inr (inl p))) = Copy (Put p.0.0 p.0.1 p.1.0 p.1.1)
-step_from (inr (inr (inr (inl name)))) = Copy (Drop name)
-step_from (inr (inr (inr (inr (inl p))))) = Copy (Reset p.0 p.1)
-step_from (inr (inr (inr (inr (inr n))))) = Copy Clear
+step_from (inl e) = Log e
+step_from (inr (inl (inl v))) = Control (Back v)
+step_from (inr (inl (inr (inl v)))) = Control (Firm v)
+step_from (inr (inl (inr (inr (inl v))))) = Control (Trim v)
+step_from (inr (inl (inr (inr (inr (inl epoch)))))) = Control (Started epoch)
+step_from (inr (inl (inr (inr (inr (inr n)))))) = Control Partial
+step_from (inr (inr (inl p))) = Recover (Put p.0.0 p.0.1 p.1.0 p.1.1)
+step_from (inr (inr (inr (inl name)))) = Recover (Drop name)
+step_from (inr (inr (inr (inr (inl p))))) = Recover (Reset p.0 p.1)
+step_from (inr (inr (inr (inr (inr n))))) = Recover Clear
 
 abbrev pub step_back : (s : Step) → step_from (step_parts s) ≡ s
-step_back (Enter e) = refl
-step_back (Rule (Back v)) = refl
-step_back (Rule (Firm v)) = refl
-step_back (Rule (Trim v)) = refl
-step_back (Rule (Started epoch)) = refl
-step_back (Rule Partial) = refl
-step_back (Copy (Put name size bytes attrs)) = refl
-step_back (Copy (Drop name)) = refl
-step_back (Copy (Reset v epoch)) = refl
-step_back (Copy Clear) = refl
+step_back (Log e) = refl
+step_back (Control (Back v)) = refl
+step_back (Control (Firm v)) = refl
+step_back (Control (Trim v)) = refl
+step_back (Control (Started epoch)) = refl
+step_back (Control Partial) = refl
+step_back (Recover (Put name size bytes attrs)) = refl
+step_back (Recover (Drop name)) = refl
+step_back (Recover (Reset v epoch)) = refl
+step_back (Recover Clear) = refl
 
 abbrev pub step_code : Coded Step
 step_code = code_by (Entry ⊎ RestParts) (coded⊎ entry_code rest_code) step_parts step_from step_back

@@ -4,7 +4,7 @@ use Rattle.ec_model.specs.Versions.{Version}
 use Rattle.ec_words.specs.Names.{is_name}
 pub use Rattle.ec_words.specs.Readers.{Reader, AreBytes, IsReadingOf, and_then, mapped, both, read_byte, read_u32, read_u64, read_list, read_counted, version_from, read_version}
 use Rattle.shard_model.specs.Changes.{Change, Write, Replace, Remove, SetAttr, RemoveAttr}
-use Rattle.shard_model.specs.Steps.{Back, Firm, Trim, Started, Partial, Put, Drop, Clear, Reset, Step, Enter, Rule, Copy}
+use Rattle.shard_model.specs.Steps.{Back, Firm, Trim, Started, Partial, Put, Drop, Clear, Reset, Step, Log, Control, Recover}
 
 abbrev pub if_name : List ℕ → Reader (List ℕ)
 if_name name rest = if is_name name then Some (name, rest) else None
@@ -39,7 +39,7 @@ read_head = both read_version (both read_version read_name)
 
 -- an entry's step with a change of some parts
 abbrev pub entry_of : {C : Type 0} → (C → Change) → Head × C → Step
-entry_of change p = Enter (record { version = p.0.0; prior = p.0.1.0; name = p.0.1.1; change = change p.1 })
+entry_of change p = Log (record { version = p.0.0; prior = p.0.1.0; name = p.0.1.1; change = change p.1 })
 
 abbrev pub write_of : ℕ × (ℕ × (ℕ × List ℕ)) → Change
 write_of p = Write p.0 p.1.0 p.1.1.0 p.1.1.1
@@ -51,13 +51,13 @@ abbrev pub set_attr_of : List ℕ × List ℕ → Change
 set_attr_of p = SetAttr p.0 p.1
 
 abbrev pub put_of : List ℕ × (ℕ × (List ℕ × List (List ℕ × List ℕ))) → Step
-put_of p = Copy (Put p.0 p.1.0 p.1.1.0 p.1.1.1)
+put_of p = Recover (Put p.0 p.1.0 p.1.1.0 p.1.1.1)
 
 abbrev pub reset_of : Version × ℕ → Step
-reset_of p = Copy (Reset p.0 p.1)
+reset_of p = Recover (Reset p.0 p.1)
 
 abbrev pub removed_of : Head → Step
-removed_of h = Enter (record { version = h.0; prior = h.1.0; name = h.1.1; change = Remove })
+removed_of h = Log (record { version = h.0; prior = h.1.0; name = h.1.1; change = Remove })
 
 abbrev pub read_write : Reader Step
 read_write = mapped (entry_of write_of) (both read_head (both read_byte (both read_u32 (both read_u32 read_counted))))
@@ -75,28 +75,28 @@ abbrev pub read_remove_attr : Reader Step
 read_remove_attr = mapped (entry_of RemoveAttr) (both read_head read_name)
 
 abbrev pub read_back : Reader Step
-read_back = mapped (λ v. Rule (Back v)) read_version
+read_back = mapped (λ v. Control (Back v)) read_version
 
 abbrev pub read_started : Reader Step
-read_started = mapped (λ epoch. Rule (Started epoch)) read_u32
+read_started = mapped (λ epoch. Control (Started epoch)) read_u32
 
 abbrev pub read_firm : Reader Step
-read_firm = mapped (λ v. Rule (Firm v)) read_version
+read_firm = mapped (λ v. Control (Firm v)) read_version
 
 abbrev pub read_trim : Reader Step
-read_trim = mapped (λ v. Rule (Trim v)) read_version
+read_trim = mapped (λ v. Control (Trim v)) read_version
 
 abbrev pub read_partial : Reader Step
-read_partial text = Some (Rule Partial, text)
+read_partial text = Some (Control Partial, text)
 
 abbrev pub read_put : Reader Step
 read_put = mapped put_of (both read_name (both read_u32 (both read_counted read_attrs)))
 
 abbrev pub read_drop : Reader Step
-read_drop = mapped (λ name. Copy (Drop name)) read_name
+read_drop = mapped (λ name. Recover (Drop name)) read_name
 
 abbrev pub read_clear : Reader Step
-read_clear text = Some (Copy Clear, text)
+read_clear text = Some (Recover Clear, text)
 
 abbrev pub read_reset : Reader Step
 read_reset = mapped reset_of (both read_version read_u32)

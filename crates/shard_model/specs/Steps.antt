@@ -1,7 +1,7 @@
 -- The steps of a shard. Source: this project; entries, rolling back and the last epoch started after Ceph developer guide,
 -- "Erasure Coded pool" and "Peering".
 -- There are three parts: an entry changes an object under a version and goes to the log; a control step moves the bounds of
--- the log; a copying step fills a partial shard.
+-- the log; a recovery step fills a partial shard.
 use Rattle.std.specs.Prelude.{ℕ, List}
 use Rattle.ec_model.specs.Versions.{Version}
 use Rattle.shard_model.specs.Changes.{Change}
@@ -15,20 +15,20 @@ pub record Entry : Type 0 where
 
 -- roll back to a version; nothing up to it is rolled back again; the log begins after it; an epoch started; from now on
 -- the shard is filled anew
-pub data Control : Type 0 where
-  Back Firm Trim : (version : Version) → Control
-  Started : (epoch : ℕ) → Control
-  Partial : Control
+pub data ControlStep : Type 0 where
+  Back Firm Trim : (version : Version) → ControlStep
+  Started : (epoch : ℕ) → ControlStep
+  Partial : ControlStep
 
 -- an object as it is elsewhere, with its attributes in the order of their names; one that is not there; none at all; the
 -- shard is whole, at this version and epoch
-pub data Copying : Type 0 where
-  Put : (name : List ℕ) (size : ℕ) (bytes : List ℕ) (attrs : List (List ℕ × List ℕ)) → Copying
-  Drop : (name : List ℕ) → Copying
-  Clear : Copying
-  Reset : (version : Version) (epoch : ℕ) → Copying
+pub data RecoveryStep : Type 0 where
+  Put : (name : List ℕ) (size : ℕ) (bytes : List ℕ) (attrs : List (List ℕ × List ℕ)) → RecoveryStep
+  Drop : (name : List ℕ) → RecoveryStep
+  Clear : RecoveryStep
+  Reset : (version : Version) (epoch : ℕ) → RecoveryStep
 
 pub data Step : Type 0 where
-  Enter : (entry : Entry) → Step
-  Rule : (control : Control) → Step
-  Copy : (copying : Copying) → Step
+  Log : (entry : Entry) → Step
+  Control : (control : ControlStep) → Step
+  Recover : (recovery : RecoveryStep) → Step

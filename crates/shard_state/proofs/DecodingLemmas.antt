@@ -3,7 +3,7 @@ use Rattle.std.proofs.Common.{◌≡◌, ℕ, ◌+◌, ◌-◌, ◌<◌, List, [
 use Rattle.std.specs.List.{AllByRecursion}
 use Rattle.std.proofs.lemmas.List.{append_assoc, append-nil, map-append, length-append}
 use Rattle.std.proofs.lemmas.Grind.{flat_map-append}
-use Rattle.shard_model.specs.Steps.{Step as Meant, Enter, Rule, Copy, Back, Firm, Trim, Started, Partial, Put, Drop, Clear, Reset}
+use Rattle.shard_model.specs.Steps.{Step as Meant, Log, Control, Recover, Back, Firm, Trim, Started, Partial, Put, Drop, Clear, Reset}
 use Rattle.shard_model.specs.StepBytes.{step_bytes, steps_bytes, IsWritable, IsFirstBad}
 use Rattle.shard_model.specs.StepReading.{AreBytes, read_step}
 use Rattle.shard_model.proofs.ReadingLemmas.{rest_bytes, not_read}
@@ -44,16 +44,16 @@ longer : (xs ys : List ℕ) → 0 < length xs → length ys < length (xs ++ ys)
 longer xs ys some = subst (λ n. length ys < n) (sym (length-append xs ys)) (behind (length xs) (length ys) some)
 
 has_kind : (s : Meant) → 0 < length (step_bytes s)
-has_kind (Enter e) = omega arith
-has_kind (Rule (Back v)) = omega arith
-has_kind (Rule (Firm v)) = omega arith
-has_kind (Rule (Trim v)) = omega arith
-has_kind (Rule (Started epoch)) = omega arith
-has_kind (Rule Partial) = omega arith
-has_kind (Copy (Put name size bytes attrs)) = omega arith
-has_kind (Copy (Drop name)) = omega arith
-has_kind (Copy Clear) = omega arith
-has_kind (Copy (Reset v epoch)) = omega arith
+has_kind (Log e) = omega arith
+has_kind (Control (Back v)) = omega arith
+has_kind (Control (Firm v)) = omega arith
+has_kind (Control (Trim v)) = omega arith
+has_kind (Control (Started epoch)) = omega arith
+has_kind (Control Partial) = omega arith
+has_kind (Recover (Put name size bytes attrs)) = omega arith
+has_kind (Recover (Drop name)) = omega arith
+has_kind (Recover Clear) = omega arith
+has_kind (Recover (Reset v epoch)) = omega arith
 
 place_is : (text front left : List ℕ) → text ≡ front ++ left → length text - length left ≡ length front
 place_is text front left is = omega (arith, ap length is, length-append front left)

@@ -2,7 +2,7 @@
 use Rattle.std.proofs.Common.{◌≡◌, ◌*◌, ◌<◌, Bool, true, false, not, ◌&&◌, ◌||◌, List, [], ◌∷◌, map, refl, sym, ap, subst, ◌∙◌}
 use Rattle.std.proofs.lemmas.Bool.{true≢false, false≢true, and_from}
 use Rattle.ec_model.specs.Versions.{Version}
-use Rattle.shard_model.specs.Steps.{Rule, Back}
+use Rattle.shard_model.specs.Steps.{Control, Back}
 use Rattle.shard_model.specs.States.{holds, fits, state_after}
 use Rattle.shard_model.specs.Replays.{state_of, replay_after}
 use Rattle.shard_model.specs.Shards.{Shard, stepped}
@@ -29,11 +29,11 @@ pub log_is : (records : List Record) → log_of records ≡ map logged_in (map r
 log_is [] = refl
 log_is (r ∷ records) = ap (λ ns. logged_in (recorded r) ∷ ns) (log_is records)
 
-pub past_given : (old new : Shard) (v : Version) → 0 < old.geometry.k * old.geometry.unit → new ≡ stepped old (Rule (Back v)) → old.state.partial ≡ false → holds old.state v ≡ true
+pub past_given : (old new : Shard) (v : Version) → 0 < old.geometry.k * old.geometry.unit → new ≡ stepped old (Control (Back v)) → old.state.partial ≡ false → holds old.state v ≡ true
     → GivesThePast old new v
 past_given old new v positive is running held steps s tells same =
     let g = old.geometry in
-    let fit : fits g old.state (Rule (Back v)) ≡ true = and_from (not old.state.partial) (holds old.state v) (ap not running) held in
-    let law = one_more g positive s (Rule (Back v)) (whole_replay g positive steps s tells) (subst (λ t. fits g t (Rule (Back v)) ≡ true) same fit) in
-    let state : new.state ≡ state_of g (replay_after g s (Rule (Back v))) = ap (λ x. x.state) is ∙ ap (λ t. state_after g t (Rule (Back v))) same ∙ sym law in
+    let fit : fits g old.state (Control (Back v)) ≡ true = and_from (not old.state.partial) (holds old.state v) (ap not running) held in
+    let law = one_more g positive s (Control (Back v)) (whole_replay g positive steps s tells) (subst (λ t. fits g t (Control (Back v)) ≡ true) same fit) in
+    let state : new.state ≡ state_of g (replay_after g s (Control (Back v))) = ap (λ x. x.state) is ∙ ap (λ t. state_after g t (Control (Back v))) same ∙ sym law in
     (ap (λ t. t.objects) state, (ap (λ x. x.state.head) is, state))

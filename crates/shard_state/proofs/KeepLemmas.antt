@@ -8,7 +8,7 @@ use Rattle.shard_model.specs.Objects.{ShardObject, ShardObjects, Geometry, put, 
 use Rattle.shard_model.specs.Changes.{Settled}
 use Rattle.shard_model.specs.States.{State, Logged, settled, undone, fits, are_attrs, brought}
 use Rattle.shard_model.specs.Limits.{max_size, max_attrs}
-use Rattle.shard_model.specs.Steps.{Copy, Put}
+use Rattle.shard_model.specs.Steps.{Recover, Put}
 use Rattle.shard_model.proofs.ShortLemmas.{is_short, pairs_short}
 use Rattle.shard_model.proofs.UndoLemmas.{few_pairs}
 use Rattle.shard_state.proofs.SpotLemmas.{by_name}
@@ -99,7 +99,7 @@ none_recorded [] e = refl
 none_recorded (r ∷ rs) e = absurd (never_empty r.logged (map logged_in rs) e)
 
 -- an object that is brought by a step that fits is one as it may be
-pub brought_held : (g : Geometry) (t : State) (name : List ℕ) (size : ℕ) (bytes : List ℕ) (attrs : List (List ℕ × List ℕ)) → fits g t (Copy (Put name size bytes attrs)) ≡ true
+pub brought_held : (g : Geometry) (t : State) (name : List ℕ) (size : ℕ) (bytes : List ℕ) (attrs : List (List ℕ × List ℕ)) → fits g t (Recover (Put name size bytes attrs)) ≡ true
     → (t.partial ≡ true) × ((fin.is_sorted by_name attrs ≡ true) × IsHeld g (brought size bytes attrs))
 brought_held g t name size bytes attrs fit =
     let parts = and_parts t.partial (nat_le size max_size && (length bytes == shard_len g size && are_attrs attrs)) fit in

@@ -6,7 +6,7 @@ use Rattle.std.proofs.lemmas.Bool.{true≢false, false≢true, and_parts, not-tr
 use Rattle.ec_model.specs.Versions.{Version, is_up_to, is_same}
 use Rattle.shard_model.specs.Fronts.{up_to, after}
 use Rattle.shard_model.specs.Objects.{Geometry}
-use Rattle.shard_model.specs.Steps.{Entry, Back, Firm, Trim, Started, Partial, Put, Drop, Clear, Reset, Step, Enter, Rule, Copy}
+use Rattle.shard_model.specs.Steps.{Entry, Back, Firm, Trim, Started, Partial, Put, Drop, Clear, Reset, Step, Log, Control, Recover}
 use Rattle.shard_model.specs.States.{State, Logged, version_of, logged, settled, follows, fits, state_after}
 use Rattle.shard_model.proofs.VersionLemmas.{above-trans, above-weak, up_to-trans, up_to-refl}
 use Rattle.shard_model.proofs.StepLemmas.{next_above}
@@ -96,7 +96,7 @@ not_both : (s : State) (A : Type 0) → (not s.partial) ≡ true → s.partial �
 not_both s A running partial = absurd (true≢false (sym partial ∙ not-true s.partial running))
 
 pub ordered_after : (g : Geometry) (s : State) (step : Step) → IsOrdered s → fits g s step ≡ true → IsOrdered (state_after g s step)
-ordered_after g s (Enter e) ordered fit =
+ordered_after g s (Log e) ordered fit =
     let follow = (and_parts (follows s e) _ fit).0 in
     let above = above_head s e follow in
     record {
@@ -104,18 +104,18 @@ ordered_after g s (Enter e) ordered fit =
       rising = rising_pushed s.head s.log (logged s.objects e) ordered.below ordered.rising above;
       alone = λ p. not_both s _ (and_parts (not s.partial) _ follow).0 p;
     }
-ordered_after g s (Rule (Back v)) ordered fit =
+ordered_after g s (Control (Back v)) ordered fit =
     record { below = front_below v s.log; rising = front_rising v s.log ordered.rising; alone = λ p. not_both s _ (and_parts (not s.partial) _ fit).0 p }
-ordered_after g s (Rule (Firm v)) ordered fit =
+ordered_after g s (Control (Firm v)) ordered fit =
     record { below = settled_below v s.head s.log ordered.below; rising = settled_rising v s.log ordered.rising; alone = λ p. not_both s _ (and_parts (not s.partial) _ fit).0 p }
-ordered_after g s (Rule (Trim v)) ordered fit =
+ordered_after g s (Control (Trim v)) ordered fit =
     record { below = rest_all (λ n. is_up_to n.version s.head ≡ true) v s.log ordered.below; rising = rest_rising v s.log ordered.rising; alone = λ p. not_both s _ (and_parts (not s.partial) _ fit).0 p }
-ordered_after g s (Rule (Started epoch)) ordered fit = record { below = ordered.below; rising = ordered.rising; alone = ordered.alone }
-ordered_after g s (Rule Partial) ordered fit = record { below = tt; rising = tt; alone = λ p. refl }
-ordered_after g s (Copy (Put name size bytes attrs)) ordered fit = record { below = ordered.below; rising = ordered.rising; alone = ordered.alone }
-ordered_after g s (Copy (Drop name)) ordered fit = record { below = ordered.below; rising = ordered.rising; alone = ordered.alone }
-ordered_after g s (Copy Clear) ordered fit = record { below = ordered.below; rising = ordered.rising; alone = ordered.alone }
-ordered_after g s (Copy (Reset v epoch)) ordered fit =
+ordered_after g s (Control (Started epoch)) ordered fit = record { below = ordered.below; rising = ordered.rising; alone = ordered.alone }
+ordered_after g s (Control Partial) ordered fit = record { below = tt; rising = tt; alone = λ p. refl }
+ordered_after g s (Recover (Put name size bytes attrs)) ordered fit = record { below = ordered.below; rising = ordered.rising; alone = ordered.alone }
+ordered_after g s (Recover (Drop name)) ordered fit = record { below = ordered.below; rising = ordered.rising; alone = ordered.alone }
+ordered_after g s (Recover Clear) ordered fit = record { below = ordered.below; rising = ordered.rising; alone = ordered.alone }
+ordered_after g s (Recover (Reset v epoch)) ordered fit =
     let none = ordered.alone (and_parts s.partial _ fit).0 in
     record {
       below = subst (Below v) (sym none) tt;

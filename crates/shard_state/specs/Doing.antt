@@ -3,21 +3,21 @@ use Rattle.std.specs.Prelude.{◌≡◌, ◌≤◌, ℕ, Bool, true, false, Opti
 use Rattle.shard_model.specs.Limits.{max_attrs}
 use Rattle.shard_model.specs.Objects.{ShardObject, Geometry as Meant}
 use Rattle.shard_model.specs.Changes.{Change, Write, Replace, Remove, SetAttr, RemoveAttr, Undo, Fresh, Extent, changed, undo_of}
-use Rattle.shard_model.specs.Steps.{Step, Enter, Rule, Copy, Put, Drop, Clear, Reset}
+use Rattle.shard_model.specs.Steps.{Step, Log, Control, Recover, Put, Drop, Clear, Reset}
 use Rattle.shard_model.specs.States.{State, Unbegun}
 use Rattle.ec_model.specs.Versions.{zero_version}
 use Rattle.std.specs.FinMap as map
 
 -- the change of an entry; of another step none that counts
 abbrev pub change_in : Step → Change
-change_in (Enter e) = e.change
-change_in (Rule control) = Remove
-change_in (Copy copying) = Remove
+change_in (Log e) = e.change
+change_in (Control control) = Remove
+change_in (Recover recovery) = Remove
 
 abbrev pub is_entry : Step → Bool
-is_entry (Enter e) = true
-is_entry (Rule control) = false
-is_entry (Copy copying) = false
+is_entry (Log e) = true
+is_entry (Control control) = false
+is_entry (Recover recovery) = false
 
 -- to put an attribute back there has to be room for one
 abbrev pub HasRoomFor : Change → ℕ → Type 0
@@ -40,12 +40,12 @@ write_undo at len (Some o) = Extent o.size at (take len (drop at o.bytes))
 
 -- the step takes no memory
 abbrev pub takes_none : Step → Bool
-takes_none (Enter e) = false
-takes_none (Rule control) = true
-takes_none (Copy (Put name size bytes attrs)) = false
-takes_none (Copy (Drop name)) = true
-takes_none (Copy Clear) = true
-takes_none (Copy (Reset v epoch)) = true
+takes_none (Log e) = false
+takes_none (Control control) = true
+takes_none (Recover (Put name size bytes attrs)) = false
+takes_none (Recover (Drop name)) = true
+takes_none (Recover Clear) = true
+takes_none (Recover (Reset v epoch)) = true
 
 -- the state before any step
 abbrev pub fresh_state : State

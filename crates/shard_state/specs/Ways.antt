@@ -3,7 +3,7 @@ use Rattle.std.specs.Prelude.{◌≡◌, ℕ, List, [], ◌∷◌, ◌++◌, tak
 use Rattle.shard_model.specs.Objects.{ShardObjects}
 use Rattle.shard_model.specs.States.{Logged, undone_one, undone}
 use Rattle.ec_model.specs.Versions.{Version}
-use Rattle.shard_model.specs.Steps.{Step, Rule, Back}
+use Rattle.shard_model.specs.Steps.{Step, Control, Back}
 use Rattle.shard_model.specs.Replays.{Replay, replay_of, state_of, objects_at, replay_after}
 use Rattle.shard_model.specs.Shards.{Shard}
 
@@ -25,4 +25,4 @@ pub record IsPartWay (cut : ℕ) (before now : Shard) : Type 0 where
 -- where steps lead to this state, its objects are now those at the version, and it is the state of the replay that went back
 abbrev pub GivesThePast : Shard → Shard → Version → Type 0
 GivesThePast before now v = (steps : List Step) (s : Replay) → replay_of before.geometry steps ≡ Some s → before.state ≡ state_of before.geometry s
-    → (now.state.objects ≡ objects_at before.geometry s v) × ((now.state.head ≡ v) × (now.state ≡ state_of before.geometry (replay_after before.geometry s (Rule (Back v)))))
+    → (now.state.objects ≡ objects_at before.geometry s v) × ((now.state.head ≡ v) × (now.state ≡ state_of before.geometry (replay_after before.geometry s (Control (Back v)))))

@@ -3,7 +3,7 @@ ghost use Rattle.std.specs.Prelude.{◌≡◌, ◌<◌, true, false, ◌++◌, �
 ghost use Rattle.std.specs.List.{AllByRecursion};
 ghost use Rattle.shard_model.specs.Changes.{Write};
 ghost use Rattle.shard_model.specs.StepBytes.{version_bytes, name_bytes, counted_bytes, pairs_bytes, head_bytes, change_bytes, change_number, step_bytes, steps_bytes, IsCounted, HasShortBytes, HasShortLists};
-ghost use Rattle.shard_model.specs.Steps.{Copy, Put};
+ghost use Rattle.shard_model.specs.Steps.{Recover, Put};
 ghost use Rattle.shard_state.specs.Doing.{change_in, is_entry};
 ghost use Rattle.shard_state.specs.StepMeanings.{step_of};
 
@@ -140,8 +140,8 @@ fn put_object(
     bytes: &Bytes,
     attrs: &Pairs,
 ) -> Result<(), NoMemory>
-    requires { HasShortLists (Copy (Put name.now size bytes.now attrs.now)) }
-    ensures { OnOk result (out.new ≡ out.old ++ step_bytes (Copy (Put name.now size bytes.now attrs.now))) }
+    requires { HasShortLists (Recover (Put name.now size bytes.now attrs.now)) }
+    ensures { OnOk result (out.new ≡ out.old ++ step_bytes (Recover (Put name.now size bytes.now attrs.now))) }
 {
     put_bytes(out, &[11])?;
     put_name(out, name)?;

@@ -1,7 +1,7 @@
 //! What an entry's step begins with.
 ghost use Rattle.std.specs.Prelude.{◌≡◌, ◌↔◌, false, IfSome, IsNone};
 ghost use Rattle.shard_model.specs.Changes.{kind_of as kind_of_change};
-ghost use Rattle.shard_model.specs.Steps.{Enter};
+ghost use Rattle.shard_model.specs.Steps.{Log};
 ghost use Rattle.shard_state.specs.Doing.{change_in, is_entry};
 ghost use Rattle.shard_state.specs.EntryMeanings.{kind_of};
 ghost use Rattle.shard_state.specs.StepMeanings.{step_of};
@@ -22,7 +22,7 @@ pub(crate) struct EntryHead<'a> {
 /// What an entry begins with. `None` exactly where the step is no entry.
 pub(crate) fn head_of(step: &Step) -> Option<EntryHead<'_>>
     ensures none { IsNone result ↔ (is_entry (step_of step.now) ≡ false) }
-    ensures entry { IfSome result (λ head. step_of step.now ≡ Enter (record { version = head.version.now; prior = head.prior.now; name = head.name.now; change = change_in (step_of step.now) })) }
+    ensures entry { IfSome result (λ head. step_of step.now ≡ Log (record { version = head.version.now; prior = head.prior.now; name = head.name.now; change = change_in (step_of step.now) })) }
     ensures kind { IfSome result (λ head. kind_of head.kind ≡ kind_of_change (change_in (step_of step.now))) }
 {
     match step {

@@ -7,7 +7,7 @@ ghost use Rattle.ec_model.specs.Versions.{zero_version};
 ghost use Rattle.shard_model.specs.Objects.{MayBeHeld, put};
 ghost use Rattle.shard_model.specs.Changes.{Change, fits_change, changed, restored, kind_of as kind_of_change, undo_of as undo_of_change};
 ghost use Rattle.shard_state.specs.Sound.{IsSound};
-ghost use Rattle.shard_model.specs.Steps.{Enter, Rule, Copy, Back, Started, Firm, Trim, Partial, Drop as DropName, Clear, Reset, Put};
+ghost use Rattle.shard_model.specs.Steps.{Log, Control, Recover, Back, Started, Firm, Trim, Partial, Drop as DropName, Clear, Reset, Put};
 ghost use Rattle.shard_model.specs.States.{Logged as Meant, holds, fits, follows, is_known, brought};
 ghost use Rattle.shard_model.specs.Limits.{seq_limit};
 ghost use Rattle.shard_model.specs.Listings.{next_name, usage};
@@ -225,7 +225,7 @@ impl ShardState {
     /// come.
     pub fn undo_to(&mut self, version: Version) -> Result<(), UndoFault>
         requires { self.old.state.partial ≡ false }
-        ensures ok { OnOk result (self.new ≡ stepped self.old (Rule (Back version))) }
+        ensures ok { OnOk result (self.new ≡ stepped self.old (Control (Back version))) }
         ensures past { OnOk result (GivesThePast self.old self.new version) }
         ensures no_undo { IsErr result ↔ (holds self.old.state version ≡ false) }
         ensures fault { IfErr result (λ fault. fault ≡ UndoFault.NoUndo version) }
@@ -240,8 +240,8 @@ impl ShardState {
 
     /// Takes the entries after a version back, the newest first.
     fn back(&mut self, version: &Version)
-        requires { fits self.old.geometry self.old.state (Rule (Back version.now)) ≡ true }
-        ensures value { self.new ≡ stepped self.old (Rule (Back version.now)) }
+        requires { fits self.old.geometry self.old.state (Control (Back version.now)) ≡ true }
+        ensures value { self.new ≡ stepped self.old (Control (Back version.now)) }
         ensures stripes { 0 < self.old.geometry.k * self.old.geometry.unit }
     {
         let cut = front_len(&self.log, version);
@@ -254,8 +254,8 @@ impl ShardState {
 
     /// An object is brought.
     fn put(&mut self, name: &Name, size: u32, bytes: &Bytes, attrs: &Pairs) -> Result<(), NoMemory>
-        requires { fits self.old.geometry self.old.state (Copy (Put name.now size bytes.now attrs.now)) ≡ true }
-        ensures ok { OnOk result (self.new ≡ stepped self.old (Copy (Put name.now size bytes.now attrs.now))) }
+        requires { fits self.old.geometry self.old.state (Recover (Put name.now size bytes.now attrs.now)) ≡ true }
+        ensures ok { OnOk result (self.new ≡ stepped self.old (Recover (Put name.now size bytes.now attrs.now))) }
         ensures unchanged { OnErr result (self.new ≡ self.old) }
     {
         let held = brought(self.alloc, size, bytes, attrs)?;
@@ -392,8 +392,8 @@ impl ShardState {
 
     /// An epoch is started.
     fn start_epoch(&mut self, epoch: u32)
-        requires { fits self.old.geometry self.old.state (Rule (Started epoch)) ≡ true }
-        ensures { self.new ≡ stepped self.old (Rule (Started epoch)) }
+        requires { fits self.old.geometry self.old.state (Control (Started epoch)) ≡ true }
+        ensures { self.new ≡ stepped self.old (Control (Started epoch)) }
     {
         self.les = epoch;
         self.phase = Phase::Running;
@@ -401,8 +401,8 @@ impl ShardState {
 
     /// Nothing takes the entries up to a version back any more.
     fn settle(&mut self, version: &Version)
-        requires { fits self.old.geometry self.old.state (Rule (Firm version.now)) ≡ true }
-        ensures { self.new ≡ stepped self.old (Rule (Firm version.now)) }
+        requires { fits self.old.geometry self.old.state (Control (Firm version.now)) ≡ true }
+        ensures { self.new ≡ stepped self.old (Control (Firm version.now)) }
     {
         settle_to(&mut self.log, version);
         self.firm = *version;
@@ -411,8 +411,8 @@ impl ShardState {
 
     /// The log begins after a version.
     fn trim(&mut self, version: &Version)
-        requires { fits self.old.geometry self.old.state (Rule (Trim version.now)) ≡ true }
-        ensures { self.new ≡ stepped self.old (Rule (Trim version.now)) }
+        requires { fits self.old.geometry self.old.state (Control (Trim version.now)) ≡ true }
+        ensures { self.new ≡ stepped self.old (Control (Trim version.now)) }
     {
         let cut = front_len(&self.log, version);
         sweep_front(&mut self.places, &self.log, cut);
@@ -423,7 +423,7 @@ impl ShardState {
 
     /// From now on the shard is filled anew.
     fn begin_copy(&mut self)
-        ensures { self.new ≡ stepped self.old (Rule Partial) }
+        ensures { self.new ≡ stepped self.old (Control Partial) }
     {
         self.log.clear();
         self.partial = true;
@@ -432,8 +432,8 @@ impl ShardState {
 
     /// There is no object with this name.
     fn forget(&mut self, name: &Name)
-        requires { fits self.old.geometry self.old.state (Copy (DropName name.now)) ≡ true }
-        ensures { self.new ≡ stepped self.old (Copy (DropName name.now)) }
+        requires { fits self.old.geometry self.old.state (Recover (DropName name.now)) ≡ true }
+        ensures { self.new ≡ stepped self.old (Recover (DropName name.now)) }
     {
         empty_place(&mut self.places, name);
         self.phase = Phase::Running;
@@ -441,8 +441,8 @@ impl ShardState {
 
     /// There are no objects.
     fn clear(&mut self)
-        requires { fits self.old.geometry self.old.state (Copy Clear) ≡ true }
-        ensures { self.new ≡ stepped self.old (Copy Clear) }
+        requires { fits self.old.geometry self.old.state (Recover Clear) ≡ true }
+        ensures { self.new ≡ stepped self.old (Recover Clear) }
     {
         self.places = Places::new(self.alloc);
         self.phase = Phase::Running;
@@ -450,8 +450,8 @@ impl ShardState {
 
     /// The shard is whole, at a version and an epoch.
     fn end_copy(&mut self, version: &Version, epoch: u32)
-        requires { fits self.old.geometry self.old.state (Copy (Reset version.now epoch)) ≡ true }
-        ensures { self.new ≡ stepped self.old (Copy (Reset version.now epoch)) }
+        requires { fits self.old.geometry self.old.state (Recover (Reset version.now epoch)) ≡ true }
+        ensures { self.new ≡ stepped self.old (Recover (Reset version.now epoch)) }
     {
         let version = *version;
         self.tail = version;
@@ -471,7 +471,7 @@ impl ShardState {
         name: &Name,
         kind: Kind,
     ) -> Result<(), NoMemory>
-        requires entry { step_of step.now ≡ Enter (record { version = version.now; prior = prior.now; name = name.now; change = change_in (step_of step.now) }) }
+        requires entry { step_of step.now ≡ Log (record { version = version.now; prior = prior.now; name = name.now; change = change_in (step_of step.now) }) }
         requires kind { kind_of kind ≡ kind_of_change (change_in (step_of step.now)) }
         requires fits { fits self.old.geometry self.old.state (step_of step.now) ≡ true }
         ensures ok { OnOk result (self.new ≡ stepped self.old (step_of step.now)) }

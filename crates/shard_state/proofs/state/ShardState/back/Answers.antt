@@ -7,7 +7,7 @@ use Rattle.shard_model.specs.Shards.{Shard}
 use Rattle.shard_state.specs.Records.{recorded}
 use Rattle.shard_state.specs.Sound.{logged_in}
 use Rattle.shard_state.proofs.HoldLemmas.{log_is}
-use Rattle.shard_model.specs.Steps.{Rule, Back}
+use Rattle.shard_model.specs.Steps.{Control, Back}
 use Rattle.shard_state.specs.Sound.{IsOrdered}
 use Rattle.shard_state.proofs.OrderLemmas.{ordered_after}
 use Rattle.shard_state.proofs.WayLemmas.{one_further, at_end, shorter}
@@ -48,5 +48,5 @@ invariant_of-self c =
     record {
       kept = c.self-2.invariant.kept;
       ordered = subst (λ (t : Shard). IsOrdered t.state) (sym (returns-clause-value c))
-          (ordered_after c.args.self.now.geometry c.args.self.now.state (Rule (Back c.args.version.now)) (subst (λ (t : Shard). IsOrdered t.state) c.self.view_is c.self.invariant.ordered) c.requires);
+          (ordered_after c.args.self.now.geometry c.args.self.now.state (Control (Back c.args.version.now)) (subst (λ (t : Shard). IsOrdered t.state) c.self.view_is c.self.invariant.ordered) c.requires);
     }

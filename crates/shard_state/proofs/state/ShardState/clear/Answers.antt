@@ -1,6 +1,6 @@
 use Rattle.std.proofs.Common.{map as each, sym, ap, subst, ◌∙◌}
 use Rattle.shard_model.specs.Objects.{Geometry, AreHeld}
-use Rattle.shard_model.specs.Steps.{Copy, Clear}
+use Rattle.shard_model.specs.Steps.{Recover, Clear}
 use Rattle.shard_model.specs.States.{Running}
 use Rattle.shard_model.specs.Shards.{Shard, stepped}
 use Rattle.shard_state.specs.Inner.{shard_of}
@@ -17,7 +17,7 @@ returns c =
     let s = shard_of c.self.inside in
     let objects = ap inside c.new.ensures ∙ nothing_inside in
     (λ i. record { geometry = g; state = record { phase = Running; objects = objects i; log = s.state.log; tail = s.state.tail; firm = s.state.firm; head = s.state.head; les = s.state.les; partial = s.state.partial } })
-    ∙ ap (λ t. stepped t (Copy Clear)) c.self.view_is
+    ∙ ap (λ t. stepped t (Recover Clear)) c.self.view_is
 
 pub invariant_of-self : goal.invariant_of-self
 invariant_of-self c =
@@ -28,5 +28,5 @@ invariant_of-self c =
     record {
       kept = subst (IsKept g c.new.result (inside c.new.result)) (sym none) (no_log_kept g c.new.result (inside c.new.result) held);
       ordered = subst (λ (t : Shard). IsOrdered t.state) (sym (returns c))
-          (ordered_after c.args.self.now.geometry c.args.self.now.state (Copy Clear) (subst (λ (t : Shard). IsOrdered t.state) c.self.view_is c.self.invariant.ordered) c.requires);
+          (ordered_after c.args.self.now.geometry c.args.self.now.state (Recover Clear) (subst (λ (t : Shard). IsOrdered t.state) c.self.view_is c.self.invariant.ordered) c.requires);
     }

@@ -4,7 +4,7 @@ use Rattle.std.proofs.lemmas.List.{map-append}
 use Rattle.std.specs.FinMap as map
 use Rattle.shard_model.specs.Objects.{Geometry, MayBeHeld}
 use Rattle.shard_model.specs.Changes.{fits_change, undo_of as undo_of_change}
-use Rattle.shard_model.specs.Steps.{Entry, Enter}
+use Rattle.shard_model.specs.Steps.{Entry, Log}
 use Rattle.std.proofs.lemmas.Bool.{and_parts}
 use Rattle.shard_model.specs.States.{Running, logged, follows, fits}
 use Rattle.shard_state.proofs.OrderLemmas.{ordered_after, OrderedWith, ordered_with}
@@ -76,7 +76,7 @@ returns-clause-ok c =
     let objects = ap inside c.in_ok-undo.ensures.ok ∙ objects_entered g positive old made e has in
     let s = shard_of c.self.inside in
     (λ i. record { geometry = g; state = record { phase = Running; objects = objects i; log = logs i; tail = s.state.tail; firm = s.state.firm; head = e.version; les = s.state.les; partial = s.state.partial } })
-    ∙ ap (λ t. stepped t (Enter e)) c.self.view_is
+    ∙ ap (λ t. stepped t (Log e)) c.self.view_is
     ∙ ap (stepped c.args.self.now) (sym c.requires.entry)
 
 pub invariant_of-self-2 : goal.invariant_of-self-2

@@ -1,6 +1,6 @@
 use Rattle.std.proofs.Common.{Some, map as each, sym, ap, subst, ◌∙◌}
 use Rattle.shard_model.specs.Objects.{Geometry, IsHeld, AreHeld, put}
-use Rattle.shard_model.specs.Steps.{Copy, Put}
+use Rattle.shard_model.specs.Steps.{Recover, Put}
 use Rattle.shard_model.specs.States.{Running, brought}
 use Rattle.shard_model.specs.Shards.{Shard, stepped}
 use Rattle.shard_state.specs.Inner.{shard_of}
@@ -21,13 +21,13 @@ returns-clause-ok c =
     let objects = ap inside c.set.ensures.value ∙ inside-insert c.make_place.new.places name (Some c.in_ok-held.held)
     ∙ (λ i. put (c.in_ok-make_place.ensures.made.same i) name (Some (c.in_ok-held.ensures i))) in
     (λ i. record { geometry = g; state = record { phase = Running; objects = objects i; log = s.state.log; tail = s.state.tail; firm = s.state.firm; head = s.state.head; les = s.state.les; partial = s.state.partial } })
-    ∙ ap (λ t. stepped t (Copy (Put name c.args.size c.args.bytes.now c.args.attrs.now))) c.self.view_is
+    ∙ ap (λ t. stepped t (Recover (Put name c.args.size c.args.bytes.now c.args.attrs.now))) c.self.view_is
 
 pub invariant_of-self-2 : goal.invariant_of-self-2
 invariant_of-self-2 c =
     let g : Geometry = record { k = c.self.inside.geometry.k; unit = c.self.inside.geometry.unit } in
     let name = c.args.name.now in
-    let step = Copy (Put name c.args.size c.args.bytes.now c.args.attrs.now) in
+    let step = Recover (Put name c.args.size c.args.bytes.now c.args.attrs.now) in
     let new = brought c.args.size c.args.bytes.now c.args.attrs.now in
     let all = brought_held c.args.self.now.geometry c.args.self.now.state name c.args.size c.args.bytes.now c.args.attrs.now c.requires in
     let is : IsHeld g new = subst (λ (t : Shard). IsHeld t.geometry new) (sym c.self.view_is) all.1.1 in
