@@ -10,7 +10,7 @@ use Rattle.shard_model.specs.Changes.{Change, Write, Replace, Remove, SetAttr, R
 use Rattle.shard_model.specs.Limits.{max_size, max_attrs, max_value}
 use Rattle.shard_model.specs.Objects.{Geometry, shard_len}
 use Rattle.shard_model.specs.States.{State, fits, are_attrs}
-use Rattle.shard_model.specs.Steps.{Step, Enter, Rule, Copy, Back, Firm, Trim, Started, Partial, Put, Drop, Clear, Reset}
+use Rattle.shard_model.specs.Steps.{Step, Log, Control, Recover, Back, Firm, Trim, Started, Partial, Put, Drop, Clear, Reset}
 use Rattle.shard_model.specs.StepBytes.{step_bytes, head_bytes, change_bytes, name_bytes, counted_bytes, pairs_bytes, HasShortBytes, HasShortLists, IsCounted}
 use Rattle.slot_journal.specs.Text.{max_body}
 
@@ -38,16 +38,16 @@ short_values (a ∷ attrs) all =
     (omega (arith, leb-true (length a.1) max_value parts.0), short_values attrs parts.1)
 
 pub short_lists : (g : Geometry) (s : State) (step : Step) → fits g s step ≡ true → length (step_bytes step) ≤ max_body → HasShortLists step
-short_lists g s (Enter e) fit few =
+short_lists g s (Log e) fit few =
     short_change e.change (omega (arith, few, back_long (head_bytes (e.version, (e.prior, e.name))) (change_bytes e.change)))
-short_lists g s (Rule control) fit few = tt
-short_lists g s (Copy (Put name size bytes attrs)) fit few =
+short_lists g s (Control control) fit few = tt
+short_lists g s (Recover (Put name size bytes attrs)) fit few =
     let parts = and_parts (length bytes == shard_len g size) (are_attrs attrs) (and_parts (nat_le size max_size) _ (and_parts s.partial _ fit).1).1 in
     let own = and_parts (nat_le (length attrs) max_attrs) (fin.is_sorted (slice_cmp nat_cmp) attrs && list_all (λ a. nat_le (length a.1) max_value) attrs) parts.1 in
     let values = and_parts (fin.is_sorted (slice_cmp nat_cmp) attrs) (list_all (λ a. nat_le (length a.1) max_value) attrs) own.1 in (
       omega (arith, few, back_long (name_bytes name) (bytes_high_first 4 size ++ (counted_bytes bytes ++ pairs_bytes attrs)), back_long (bytes_high_first 4 size) (counted_bytes bytes ++ pairs_bytes attrs), front_long (counted_bytes bytes) (pairs_bytes attrs), counted_long bytes),
       (omega (arith, leb-true (length attrs) max_attrs own.0), short_values attrs values.1),
     )
-short_lists g s (Copy (Drop name)) fit few = tt
-short_lists g s (Copy Clear) fit few = tt
-short_lists g s (Copy (Reset v epoch)) fit few = tt
+short_lists g s (Recover (Drop name)) fit few = tt
+short_lists g s (Recover Clear) fit few = tt
+short_lists g s (Recover (Reset v epoch)) fit few = tt

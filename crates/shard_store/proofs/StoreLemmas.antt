@@ -4,7 +4,7 @@ use Rattle.std.proofs.lemmas.List.{append-nil}
 use Rattle.rig_disk.specs.Disk.{Image}
 use Rattle.rig_disk.specs.During.{During}
 use Rattle.rig_disk.proofs.Moments.{started, weaker}
-use Rattle.shard_model.specs.Steps.{Step, Enter, Rule, Copy, Back, Firm, Trim, Started, Partial, Put, Drop, Clear, Reset}
+use Rattle.shard_model.specs.Steps.{Step, Log, Control, Recover, Back, Firm, Trim, Started, Partial, Put, Drop, Clear, Reset}
 use Rattle.shard_model.specs.StepBytes.{step_bytes, steps_bytes, IsWritable, AreSteps}
 use Rattle.slot_journal.specs.InUse.{Areas, text_in_use}
 use Rattle.slot_journal.specs.Text.{IsText}
@@ -17,16 +17,16 @@ use Rattle.shard_store.specs.declared.store.Store.{Store}
 use Rattle.shard_store.proofs.StoryLemmas.{after_append, fitting_append, fitting_front, all_append, bytes_append}
 
 has_kind : (s : Step) → 1 ≤ length (step_bytes s)
-has_kind (Enter e) = omega arith
-has_kind (Rule (Back v)) = omega arith
-has_kind (Rule (Firm v)) = omega arith
-has_kind (Rule (Trim v)) = omega arith
-has_kind (Rule (Started epoch)) = omega arith
-has_kind (Rule Partial) = omega arith
-has_kind (Copy (Put name size bytes attrs)) = omega arith
-has_kind (Copy (Drop name)) = omega arith
-has_kind (Copy Clear) = omega arith
-has_kind (Copy (Reset v epoch)) = omega arith
+has_kind (Log e) = omega arith
+has_kind (Control (Back v)) = omega arith
+has_kind (Control (Firm v)) = omega arith
+has_kind (Control (Trim v)) = omega arith
+has_kind (Control (Started epoch)) = omega arith
+has_kind (Control Partial) = omega arith
+has_kind (Recover (Put name size bytes attrs)) = omega arith
+has_kind (Recover (Drop name)) = omega arith
+has_kind (Recover Clear) = omega arith
+has_kind (Recover (Reset v epoch)) = omega arith
 
 -- no bytes are no steps
 pub no_bytes : (steps : List Step) → steps_bytes steps ≡ [] → steps ≡ []

@@ -5,7 +5,7 @@ use Rattle.shard_model.specs.Objects.{Geometry}
 use Rattle.shard_model.specs.Shards.{Shard, stepped}
 use Rattle.shard_model.specs.States.{fits}
 use Rattle.shard_model.specs.StepBytes.{AreSteps, IsFirstBad}
-use Rattle.shard_model.specs.Steps.{Step, Rule, Started, Partial}
+use Rattle.shard_model.specs.Steps.{Step, Control, Started, Partial}
 use Rattle.shard_state.specs.Doing.{fresh_state}
 use Rattle.slot_journal.specs.Text.{IsText, records}
 
@@ -79,4 +79,4 @@ pub record IsBadAmong (g : Geometry) (bodies : List (List ℕ)) (at : ℕ) : Typ
 
 -- the steps of a new store
 abbrev pub first_steps : Bool → List Step
-first_steps partial = if partial then Rule Partial ∷ [] else Rule (Started 1) ∷ []
+first_steps partial = if partial then Control Partial ∷ [] else Control (Started 1) ∷ []
