@@ -7,9 +7,9 @@ use Rattle.std.specs.Cmp.Lexicographic.{slice_cmp}
 use Rattle.std.specs.FinMap as fin
 use Rattle.std.proofs.lemmas.Bool.{and_parts, and_from, leb-true, eqb-true}
 use Rattle.std.proofs.lemmas.Grind.{common_steps}
-use Rattle.shard_model.specs.Limits.{max_size, max_value, max_attrs}
+use Rattle.shard_model.specs.Limits.{max_size, max_value, max_attrs, max_step_rest}
 use Rattle.shard_model.specs.Objects.{ShardObject, Geometry, IsHeld, shard_len}
-use Rattle.shard_model.specs.States.{State, fits, are_attrs, brought}
+use Rattle.shard_model.specs.States.{State, fits, are_attrs}
 use Rattle.shard_model.specs.Steps.{Recover, Put}
 use Rattle.shard_model.specs.StepBytes.{name_bytes, counted_bytes, pair_bytes, pairs_bytes, step_bytes, IsPair, IsWritable}
 use Rattle.shard_model.specs.Laws.{HeldObjectsMayBeBrought}
@@ -47,7 +47,7 @@ pairs_long (attr ∷ attrs) are short =
     omega (arith, length-append (pair_bytes attr) (flat_map pair_bytes attrs), pair_long attr are.0 (leb-true (length attr.1) max_value parts.0), pairs_long attrs are.1 parts.1)
 
 pub put_long : (g : Geometry) (s : State) (name : List ℕ) (size : ℕ) (bytes : List ℕ) (attrs : List (List ℕ × List ℕ)) → IsWritable (Recover (Put name size bytes attrs))
-    → fits g s (Recover (Put name size bytes attrs)) ≡ true → length (step_bytes (Recover (Put name size bytes attrs))) ≤ 279050 + shard_len g size
+    → fits g s (Recover (Put name size bytes attrs)) ≡ true → length (step_bytes (Recover (Put name size bytes attrs))) ≤ max_step_rest + shard_len g size
 put_long g s name size bytes attrs has fit =
     let rest = and_parts (length bytes == shard_len g size) (are_attrs attrs) (and_parts (nat_le size max_size) _ (and_parts s.partial _ fit).1).1 in
     let lists = and_parts (nat_le (length attrs) max_attrs) _ rest.1 in

@@ -1,3 +1,4 @@
+pub mod BoundLemmas
 pub mod BroughtLemmas
 pub mod FrontLemmas
 pub mod HeadLemmas

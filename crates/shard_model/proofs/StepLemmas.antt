@@ -220,6 +220,14 @@ module _ (g : Geometry) (positive : 0 < g.k * g.unit) where
             ]
       ]
 
+  -- a version that is known is not above the head
+  pub known_high : (s : Replay) (v : Version) → IsWhole g s → is_known (state_of g s) v ≡ true → is_up_to v (head s) ≡ true
+  known_high s v whole known =
+      elim (known_kept s v whole known) [
+        | inl low ↦ up_to-trans v s.base_version (head s) low (last_low s.base_version s.entries whole.rising)
+        | inr last ↦ held_low s v last whole
+      ]
+
   new_base : (s : Replay) (phase : Phase) (m : ShardObjects) → IsWhole g s → s.partial ≡ true → AreHeld g m
       → IsWhole g (record { phase = phase; base = m; base_version = s.base_version; past = s.past; entries = s.entries; tail = s.tail; firm = s.firm; les = s.les; partial = s.partial })
   new_base s phase m whole partial sized =

@@ -2,9 +2,10 @@
 use Rattle.std.specs.Prelude.{◌≡◌, ◌⊎◌, ◌+◌, ◌<◌, ◌≤◌, ◌*◌, ℕ, List, [], ◌∷◌, ◌++◌, length, replicate, true, false, Some, None}
 use Rattle.ec_model.specs.Versions.{Version, is_up_to, zero_version}
 use Rattle.std.specs.FinMap as fin
+use Rattle.shard_model.specs.Limits.{max_size, max_step_rest}
 use Rattle.shard_model.specs.Objects.{ShardObject, Geometry, IsHeld, shard_len}
 use Rattle.shard_model.specs.Changes.{Change, Write, Replace, SetAttr, RemoveAttr, Extent, bytes_of, changed, undo_of, restored}
-use Rattle.shard_model.specs.Steps.{Step, Log, Control, Recover, ControlStep, Back, Started, Put, Entry}
+use Rattle.shard_model.specs.Steps.{Step, Log, Control, Recover, ControlStep, Back, Started, Put, Drop, Reset, Entry}
 use Rattle.shard_model.specs.States.{State, fits, state_after, is_known, holds, brought}
 use Rattle.shard_model.specs.StepBytes.{change_bytes, step_bytes, steps_bytes, IsName, IsWritable, AreSteps, IsFirstBad}
 use Rattle.shard_model.specs.StepReading.{AreBytes, IsReadingOf, read_step}
@@ -46,10 +47,11 @@ ReplaysAreWhole = (g : Geometry) → 0 < g.k * g.unit → (steps : List Step) (s
 abbrev pub HeadIsPresent : Type 0
 HeadIsPresent = (g : Geometry) (s : Replay) → IsWhole g s → objects_at g s (head s) ≡ (state_of g s).objects
 
--- a shard that is not being filled holds its head, and a version that it knows is not below its tail
+-- a shard that is not being filled holds its head, and a version that it knows lies from its tail to its head
 pub record HoldsHead (g : Geometry) (s : Replay) : Type 0 where
   pub newest : s.partial ≡ false → holds (state_of g s) (head s) ≡ true
   pub known : (v : Version) → is_known (state_of g s) v ≡ true → is_up_to s.tail v ≡ true
+  pub up_to_head : (v : Version) → is_known (state_of g s) v ≡ true → is_up_to v (head s) ≡ true
 
 abbrev pub HeadIsHeld : Type 0
 HeadIsHeld = (g : Geometry) (s : Replay) → 0 < g.k * g.unit → IsWhole g s → HoldsHead g s
@@ -89,7 +91,7 @@ abbrev pub BytesAreReadOneWay : Type 0
 BytesAreReadOneWay = (text : List ℕ) → AreBytes text → IsReadOneWay text
 
 -- how many bytes a step has: an entry 281 at most beside those of its change, a control step 13 at most, an object that is
--- brought 279,050 at most beside its own
+-- brought 279,050 at most beside its own; and no step that fits has more beside the bytes of the largest object
 pub record StepLengths : Type 0 where
   pub entry : (e : Entry) → length (step_bytes (Log e)) ≡ 26 + (length e.name + length (change_bytes e.change))
   pub bounded : (e : Entry) → IsName e.name → length (step_bytes (Log e)) ≤ 281 + length (change_bytes e.change)
@@ -99,7 +101,11 @@ pub record StepLengths : Type 0 where
   pub remove_attr : (attr : List ℕ) → length (change_bytes (RemoveAttr attr)) ≡ 1 + length attr
   pub control : (c : ControlStep) → length (step_bytes (Control c)) ≤ 13
   pub put : (g : Geometry) (s : State) (name : List ℕ) (size : ℕ) (bytes : List ℕ) (attrs : List (List ℕ × List ℕ)) → IsWritable (Recover (Put name size bytes attrs))
-      → fits g s (Recover (Put name size bytes attrs)) ≡ true → length (step_bytes (Recover (Put name size bytes attrs))) ≤ 279050 + shard_len g size
+      → fits g s (Recover (Put name size bytes attrs)) ≡ true → length (step_bytes (Recover (Put name size bytes attrs))) ≤ max_step_rest + shard_len g size
+  pub drop : (name : List ℕ) → IsName name → length (step_bytes (Recover (Drop name))) ≤ 257
+  pub reset : (v : Version) (epoch : ℕ) → length (step_bytes (Recover (Reset v epoch))) ≡ 17
+  pub any : (g : Geometry) (s : State) (step : Step) → 0 < g.k * g.unit → IsWritable step → fits g s step ≡ true
+      → length (step_bytes step) ≤ max_step_rest + shard_len g max_size
 
 -- an object of any shard fits where it is brought to one that is being filled, and is what is brought
 pub record MayBeBrought (g : Geometry) (name : List ℕ) (o : ShardObject) : Type 0 where

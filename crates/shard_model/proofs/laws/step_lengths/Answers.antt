@@ -1,4 +1,5 @@
 use Rattle.std.proofs.Common.{arith}
+use Rattle.shard_model.proofs.BoundLemmas.{drop_long, reset_long, step_short}
 use Rattle.shard_model.proofs.BroughtLemmas.{put_long}
 use Rattle.shard_model.proofs.LengthLemmas.{name_short, write_long, replace_long, set_long, entry_long, control_long}
 use Rattle.shard_model.proofs.laws.step_lengths.Goals as goal
@@ -13,4 +14,7 @@ returns c = record {
   remove_attr = λ attr. omega arith;
   control = control_long;
   put = put_long;
+  drop = drop_long;
+  reset = reset_long;
+  any = λ g s step positive. step_short g positive s step;
 }
