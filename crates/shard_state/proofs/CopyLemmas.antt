@@ -15,7 +15,7 @@ use Rattle.shard_model.specs.States.{Logged, undone}
 use Rattle.shard_state.specs.Copies.{IsCopy, AreCopies}
 use Rattle.shard_state.specs.Sound.{Recorded, logged_in, IsSound, AreSound, IsKept, HasPlace}
 use Rattle.shard_state.proofs.MapLemmas.{by_name}
-use Rattle.shard_state.proofs.TallyLemmas.{Place}
+use Rattle.shard_state.proofs.TotalsLemmas.{Place}
 
 -- a name above all those before it goes last
 among : (k : List ℕ) (es : List Place) (place : Place) (rest : List Place) → AllByRecursion (λ y. by_name k y ≡ Less) (keys_of (es ++ place ∷ rest)) → by_name k place.0 ≡ Less

@@ -14,5 +14,5 @@ pub mod SoundLemmas
 pub mod SpotLemmas
 pub mod StateLemmas
 pub mod SweepLemmas
-pub mod TallyLemmas
+pub mod TotalsLemmas
 pub mod WayLemmas

@@ -9,5 +9,5 @@ pub mod Records
 pub mod Sound
 pub mod Spots
 pub mod StepMeanings
-pub mod Tallies
+pub mod Totals
 pub mod Ways

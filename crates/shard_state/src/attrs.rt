@@ -7,7 +7,7 @@ ghost use Rattle.std.specs.FinMap as map;
 ghost use Rattle.std.specs.List.{sum_by};
 ghost use Rattle.shard_model.specs.Listings.{attr_usage};
 ghost use Rattle.shard_state.specs.Spots.{IsSpot, without};
-ghost use Rattle.shard_state.specs.Tallies.{most};
+ghost use Rattle.shard_state.specs.Totals.{most};
 
 use crate::pairs::Pairs;
 use ec_words::{Bytes, Name, NoMemory};
@@ -127,7 +127,7 @@ impl Attrs {
     }
 
     /// Sets a value that was there before, without memory: the attribute is there, or the spare has room for one more.
-    pub(crate) fn give_back(&mut self, spare: Spare, name: Name, value: Bytes)
+    pub(crate) fn give_back(&mut self, spare: SpareAttrs, name: Name, value: Bytes)
         requires { (IsSome (map.get self.old name)) ⊎ (map.len self.old < spare) }
         ensures { self.new ≡ map.insert self.old name value }
     {
@@ -193,7 +193,7 @@ fn take_pair(list: &mut Vec<(Name, Bytes)>, name: &Name) -> Option<Bytes>
     Some(before.1)
 }
 
-fn give_pair(list: &mut Vec<(Name, Bytes)>, spare: Spare, name: Name, value: Bytes)
+fn give_pair(list: &mut Vec<(Name, Bytes)>, spare: SpareAttrs, name: Name, value: Bytes)
     requires sorted { map.is_sorted (slice_cmp nat_cmp) list.old.items ≡ true }
     requires room { (IsSome (map.find (slice_cmp nat_cmp) name list.old.items)) ⊎ (length list.old.items < spare) }
     ensures { list.new.items ≡ map.put (slice_cmp nat_cmp) name value list.old.items }
@@ -217,11 +217,11 @@ fn give_pair(list: &mut Vec<(Name, Bytes)>, spare: Spare, name: Name, value: Byt
 
 /// Room for attributes. A contract sees for how many.
 #[derive(Drop)]
-pub(crate) struct Spare {
+pub(crate) struct SpareAttrs {
     list: Vec<(Name, Bytes)>,
 }
 
-impl Model for Spare {
+impl Model for SpareAttrs {
     ghost use Rattle.std.specs.Prelude.{◌≡◌, ℕ, []};
     ghost use Rattle.std.specs.Vec.{vec_capacity};
 
@@ -232,27 +232,27 @@ impl Model for Spare {
     ghost invariant = { λ s. s.list.items ≡ [] };
 }
 
-impl Spare {
+impl SpareAttrs {
     /// Room for none, which takes no memory.
-    pub fn none(alloc: Global) -> Spare {
-        Spare {
+    pub fn none(alloc: Global) -> SpareAttrs {
+        SpareAttrs {
             list: Vec::new(alloc),
         }
     }
 
     /// Room for this many.
-    pub fn of(alloc: Global, n: usize) -> Result<Spare, NoMemory>
+    pub fn of(alloc: Global, n: usize) -> Result<SpareAttrs, NoMemory>
         ensures { IfOk result (λ spare. n ≤ spare) }
     {
         let list = Vec::with_capacity(alloc, n)?;
-        Ok(Spare { list })
+        Ok(SpareAttrs { list })
     }
 
     /// Room for as many at least.
-    pub fn copy(&self, alloc: Global) -> Result<Spare, NoMemory>
+    pub fn copy(&self, alloc: Global) -> Result<SpareAttrs, NoMemory>
         ensures { IfOk result (λ copy. self.now ≤ copy) }
     {
-        Spare::of(alloc, self.list.capacity())
+        SpareAttrs::of(alloc, self.list.capacity())
     }
 }
 

@@ -10,7 +10,7 @@ ghost use Rattle.shard_state.specs.Doing.{write_undo, DoesChange, change_in, is_
 ghost use Rattle.shard_state.specs.Sound.{IsSound};
 ghost use Rattle.shard_state.specs.StepMeanings.{step_of};
 
-use crate::attrs::{Attrs, Spare};
+use crate::attrs::{Attrs, SpareAttrs};
 use crate::entry::Undo;
 use crate::held::Held;
 use crate::limits::MAX_ATTRS;
@@ -24,7 +24,7 @@ use std::alloc::Global;
 pub(crate) struct Changed {
     pub after: Option<Held>,
     pub undo: Undo,
-    pub spare: Spare,
+    pub spare: SpareAttrs,
 }
 
 /// Bytes grown to a length with zeros, with some of them in a place. After an `Err` they are as they were.
@@ -102,7 +102,7 @@ fn write_new(
                 attrs: Attrs::new(alloc),
             }),
             undo: Undo::Fresh,
-            spare: Spare::none(alloc),
+            spare: SpareAttrs::none(alloc),
         }),
         Err(_) => Err(None),
     }
@@ -144,7 +144,7 @@ fn write_over(
                 at,
                 before,
             },
-            spare: Spare::none(alloc),
+            spare: SpareAttrs::none(alloc),
         }),
         Err(_) => Err(Some(Held {
             bytes: Bytes::of(list),
@@ -179,7 +179,7 @@ fn replace(
             attrs,
         }),
         undo: whole(before),
-        spare: Spare::none(alloc),
+        spare: SpareAttrs::none(alloc),
     })
 }
 
@@ -221,7 +221,7 @@ fn set_attr(alloc: Global, held: Held, attr: &Name, value: &Bytes) -> Result<Cha
         Ok(before) => Ok(Changed {
             after: Some(Held { bytes, size, attrs }),
             undo: Undo::Attr { attr: name, before },
-            spare: Spare::none(alloc),
+            spare: SpareAttrs::none(alloc),
         }),
         Err(_) => Err(Some(Held { bytes, size, attrs })),
     }
@@ -260,11 +260,11 @@ fn remove_attr(alloc: Global, held: Held, attr: &Name) -> Result<Changed, Option
 }
 
 /// A name, and room for as many attributes as there may be.
-fn name_and_spare(alloc: Global, attr: &Name) -> Result<(Name, Spare), NoMemory>
+fn name_and_spare(alloc: Global, attr: &Name) -> Result<(Name, SpareAttrs), NoMemory>
     ensures { IfOk result (λ both. (both.0 ≡ attr.now) × (max_attrs ≤ both.1)) }
 {
     let name = attr.copy(alloc)?;
-    let spare = Spare::of(alloc, MAX_ATTRS)?;
+    let spare = SpareAttrs::of(alloc, MAX_ATTRS)?;
     Ok((name, spare))
 }
 
@@ -299,7 +299,7 @@ pub(crate) fn apply_change(
         Step::Remove { .. } => Ok(Changed {
             after: None,
             undo: whole(before),
-            spare: Spare::none(alloc),
+            spare: SpareAttrs::none(alloc),
         }),
         Step::SetAttr { attr, value, .. } => match before {
             Some(held) => set_attr(alloc, held, attr, value),
@@ -314,7 +314,12 @@ pub(crate) fn apply_change(
 }
 
 /// An object with a change taken back, without memory.
-pub(crate) fn taken_back(g: Geometry, held: Option<Held>, undo: Undo, spare: Spare) -> Option<Held>
+pub(crate) fn taken_back(
+    g: Geometry,
+    held: Option<Held>,
+    undo: Undo,
+    spare: SpareAttrs,
+) -> Option<Held>
     requires { IsSound (record { k = g.k; unit = g.unit }) spare (undo_of undo) held }
     ensures { result ≡ restored (record { k = g.k; unit = g.unit }) (undo_of undo) held }
 {
@@ -366,7 +371,7 @@ fn cut_back(list: &mut Vec<u8>, len: usize, at: usize, before: &[u8])
 }
 
 /// An object with an old value of an attribute, or without it.
-fn with_attr(held: Held, spare: Spare, attr: Name, before: Option<Bytes>) -> Held
+fn with_attr(held: Held, spare: SpareAttrs, attr: Name, before: Option<Bytes>) -> Held
     requires { IfSome before (λ value. (IsSome (map.get held.attrs attr)) ⊎ (map.len held.attrs < spare)) }
     ensures { result ≡ record { bytes = held.bytes; size = held.size; attrs = put held.attrs attr before } }
 {

@@ -1,7 +1,7 @@
 //! What a shard holds of an object.
 ghost use Rattle.std.specs.Prelude.{◌≡◌, min, IfOk};
 ghost use Rattle.shard_model.specs.Listings.{object_usage};
-ghost use Rattle.shard_state.specs.Tallies.{most};
+ghost use Rattle.shard_state.specs.Totals.{most};
 
 use crate::attrs::Attrs;
 use ec_words::{Bytes, NoMemory};

@@ -31,7 +31,7 @@ mod record;
 mod state;
 mod step;
 mod steps;
-mod tally;
+mod totals;
 
 pub use attrs::Attrs;
 pub use decoding::decode_steps;

@@ -11,7 +11,7 @@ ghost use Rattle.shard_state.specs.Records.{recorded};
 ghost use Rattle.shard_state.specs.Sound.{IsSound, HasPlace};
 ghost use Rattle.shard_state.specs.StepMeanings.{step_of};
 
-use crate::attrs::Spare;
+use crate::attrs::SpareAttrs;
 use crate::change::{apply_change, taken_back};
 use crate::entry::Undo;
 use crate::log::is_named;
@@ -49,7 +49,7 @@ pub(crate) fn change_place(
     g: Geometry,
     step: &Step,
     name: &Name,
-) -> Result<(Undo, Spare), NoMemory>
+) -> Result<(Undo, SpareAttrs), NoMemory>
     requires placed { IsSome (map.get places.old name.now) }
     requires entry { is_entry (step_of step.now) ≡ true }
     requires held { MayBeHeld (record { k = g.k; unit = g.unit }) (joined (map.get places.old name.now)) }
@@ -74,7 +74,13 @@ pub(crate) fn change_place(
 }
 
 /// Takes a change back in the place of a name.
-pub(crate) fn restore_place(places: &mut Places, g: Geometry, name: Name, undo: Undo, spare: Spare)
+pub(crate) fn restore_place(
+    places: &mut Places,
+    g: Geometry,
+    name: Name,
+    undo: Undo,
+    spare: SpareAttrs,
+)
     requires placed { IsSome (map.get places.old name) }
     requires sound { IsSound (record { k = g.k; unit = g.unit }) spare (undo_of undo) (joined (map.get places.old name)) }
     ensures { places.new ≡ map.insert places.old name (restored (record { k = g.k; unit = g.unit }) (undo_of undo) (joined (map.get places.old name))) }

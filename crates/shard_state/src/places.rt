@@ -7,11 +7,11 @@ ghost use Rattle.std.specs.FinMap as map;
 ghost use Rattle.std.specs.Range.Bound.{bound_map};
 ghost use Rattle.shard_model.specs.Listings.{next_name, usage};
 ghost use Rattle.shard_state.specs.Places.{joined, inside, IsSwept};
-ghost use Rattle.shard_state.specs.Tallies.{most, start_after};
+ghost use Rattle.shard_state.specs.Totals.{most, start_after};
 
 use crate::copying::copy_place;
 use crate::held::Held;
-use crate::tally::Tally;
+use crate::totals::ObjectTotals;
 use ec_words::{Name, NoMemory};
 use std::alloc::Global;
 use std::collections::BTreeMap;
@@ -22,7 +22,7 @@ use std::ops::Bound;
 #[derive(Drop)]
 pub(crate) struct Places {
     slots: BTreeMap<Name, Option<Held>>,
-    tally: Tally,
+    totals: ObjectTotals,
 }
 
 impl Model for Places {
@@ -39,9 +39,9 @@ impl Model for Places {
 
     ghost view = { λ p. map.from_entries p.slots.entries };
 
-    ghost use Rattle.shard_state.specs.Tallies.{IsTallied};
+    ghost use Rattle.shard_state.specs.Totals.{AreTotals};
 
-    ghost invariant = { λ p. IsTallied p.slots.entries p.tally.count p.tally.used };
+    ghost invariant = { λ p. AreTotals p.slots.entries p.totals.count p.totals.used };
 }
 
 impl Places {
@@ -51,7 +51,7 @@ impl Places {
     {
         Places {
             slots: BTreeMap::new(alloc),
-            tally: Tally::none(),
+            totals: ObjectTotals::none(),
         }
     }
 
@@ -67,7 +67,7 @@ impl Places {
         }
         Ok(Places {
             slots,
-            tally: self.tally,
+            totals: self.totals,
         })
     }
 
@@ -104,14 +104,14 @@ impl Places {
         ensures value { self.new ≡ map.insert self.old name.now value }
         ensures before { result ≡ joined (map.get self.old name.now) }
     {
-        // There are fewer than 2^63 places, so both sums of the tally fit.
+        // There are fewer than 2^63 places, so both totals fit.
         let _places = self.slots.len();
-        self.tally.add(&value);
+        self.totals.add(&value);
         match self.slots.get_mut(name) {
             None => unreachable!(),
             Some(place) => {
                 let before = std::mem::replace(place, value);
-                self.tally.take(&before);
+                self.totals.take(&before);
                 before
             }
         }
@@ -131,15 +131,15 @@ impl Places {
     pub fn count(&self) -> usize
         ensures { result ≡ map.len (inside self.now) }
     {
-        self.tally.count
+        self.totals.count
     }
 
     /// What lies in the places takes this much, or `u64::MAX` where that is more.
     pub fn usage(&self) -> u64
         ensures { result ≡ min (usage (inside self.now)) most }
     {
-        if self.tally.used <= u128::from(u64::MAX) {
-            self.tally.used as u64
+        if self.totals.used <= u128::from(u64::MAX) {
+            self.totals.used as u64
         } else {
             u64::MAX
         }

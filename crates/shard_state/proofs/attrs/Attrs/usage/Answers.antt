@@ -2,8 +2,8 @@ use Rattle.std.proofs.Common.{min, sym, ap, ◌∙◌}
 use Rattle.std.specs.List.{sum_by}
 use Rattle.std.specs.FinMap as map
 use Rattle.shard_model.specs.Listings.{attr_usage}
-use Rattle.shard_state.specs.Tallies.{most}
-use Rattle.shard_state.proofs.TallyLemmas.{listed}
+use Rattle.shard_state.specs.Totals.{most}
+use Rattle.shard_state.proofs.TotalsLemmas.{listed}
 use Rattle.shard_state.proofs.attrs.Attrs.usage.Goals as goal
 
 pub returns : goal.returns

@@ -2,7 +2,7 @@ use Rattle.std.proofs.Common.{◌∙◌, ◌++◌, List, ap, sym}
 use Rattle.std.specs.BTreeMap.{insert_entry}
 use Rattle.shard_state.proofs.CopyLemmas.{place_copied}
 use Rattle.shard_state.proofs.MapLemmas.{by_name}
-use Rattle.shard_state.proofs.TallyLemmas.{Place}
+use Rattle.shard_state.proofs.TotalsLemmas.{Place}
 use Rattle.shard_state.proofs.places.Places.copy.Goals as goal
 
 pub loop-name-preserved-in_ok-insert : goal.loop-name-preserved-in_ok-insert

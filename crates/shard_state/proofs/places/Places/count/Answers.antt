@@ -1,7 +1,7 @@
 use Rattle.std.proofs.Common.{ap, ◌∙◌}
 use Rattle.std.specs.FinMap as map
 use Rattle.shard_state.specs.Places.{inside}
-use Rattle.shard_state.proofs.TallyLemmas.{count_is}
+use Rattle.shard_state.proofs.TotalsLemmas.{count_is}
 use Rattle.shard_state.proofs.places.Places.count.Goals as goal
 
 pub returns : goal.returns

@@ -5,9 +5,9 @@ use Rattle.std.specs.BTreeMap.Range.{entries_between}
 use Rattle.std.specs.declared.ops.Bound.TheVariants.{Unbounded}
 use Rattle.shard_model.specs.Listings.{next_name}
 use Rattle.shard_state.specs.Places.{inside}
-use Rattle.shard_state.specs.Tallies.{full}
+use Rattle.shard_state.specs.Totals.{full}
 use Rattle.shard_state.proofs.MapLemmas.{by_name}
-use Rattle.shard_state.proofs.TallyLemmas.{full_skip, first_full, next_listed}
+use Rattle.shard_state.proofs.TotalsLemmas.{full_skip, first_full, next_listed}
 use Rattle.shard_state.proofs.places.Places.next_name.Goals as goal
 
 pub loop-name-preserved : goal.loop-name-preserved

@@ -1,5 +1,5 @@
 use Rattle.std.proofs.Common.{◌≡◌}
-use Rattle.shard_state.specs.Tallies.{full}
+use Rattle.shard_state.specs.Totals.{full}
 use Rattle.shard_state.proofs.places.Places.next_name.Given as goal
 
 -- what lies in the places that are left is what lay in all of them

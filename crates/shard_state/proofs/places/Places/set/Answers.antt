@@ -5,7 +5,7 @@ use Rattle.shard_state.specs.Places.{joined}
 use Rattle.shard_state.proofs.MapLemmas.{by_name, get-listed, listed-insert}
 use Rattle.std.specs.BTreeMap.{is_at}
 use Rattle.std.specs.Map.{set_value}
-use Rattle.shard_state.proofs.TallyLemmas.{few_places, small_total, set_tallied}
+use Rattle.shard_state.proofs.TotalsLemmas.{few_places, small_total, set_totals}
 use Rattle.shard_state.proofs.places.Places.set.Goals as goal
 
 pub unreachable-requires : goal.unreachable-requires
@@ -31,7 +31,7 @@ add-requires-clause-fits c = omega (arith, small_total _ _ _ c.self.invariant, c
 pub invariant_of-self : goal.invariant_of-self
 invariant_of-self c =
     let written = c.get_mut.follows.holds c.replace-before.new.dest in
-    set_tallied c.self.inside.slots.entries _ (is_at (by_name c.args.name.now)) c.replace-before.result c.args.value _ _ _ _ c.self.invariant
+    set_totals c.self.inside.slots.entries _ (is_at (by_name c.args.name.now)) c.replace-before.result c.args.value _ _ _ _ c.self.invariant
     (sym (ap Some c.replace-before.ensures.value ∙ c.in-Some.ensures.value))
     (written.0 ∙ ap (set_value (is_at (by_name c.args.name.now)) c.self.inside.slots.entries) c.replace-before.ensures.after) written.4
     (c.take.ensures.count ∙ c.add.ensures.count) (c.take.ensures.used ∙ c.add.ensures.used)

@@ -4,14 +4,14 @@ use Rattle.std.specs.FinMap as map
 use Rattle.shard_state.specs.Places.{joined, inside}
 use Rattle.shard_state.proofs.MapLemmas.{by_name, get-listed, listed-remove, none_copied}
 use Rattle.shard_state.proofs.SweepLemmas.{empty_there, inside-remove, removed_swept}
-use Rattle.shard_state.proofs.TallyLemmas.{swept_tallied}
+use Rattle.shard_state.proofs.TotalsLemmas.{swept_totals}
 use Rattle.shard_state.proofs.places.Places.sweep.Goals as goal
 
 pub invariant_of-self : goal.invariant_of-self
 invariant_of-self c =
     let none : joined (map.get c.args.self.now c.args.name.now) ≡ None = sym c.get.ensures ∙ none_copied c.get.result c.if-is_none.ensures in
     let there = empty_there (map.get c.args.self.now c.args.name.now) (sym c.has.ensures ∙ c.if-has.true) none in
-    swept_tallied c.self.inside.slots.entries _ (is_at (by_name c.args.name.now)) _ _ c.self.invariant
+    swept_totals c.self.inside.slots.entries _ (is_at (by_name c.args.name.now)) _ _ c.self.invariant
     (sym (get-listed c.args.name.now c.self.inside.slots.entries) ∙ ap (λ m. map.get m c.args.name.now) c.self.view_is ∙ there)
     c.remove.ensures.entries c.remove.ensures.ordered
 

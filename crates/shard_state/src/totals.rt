@@ -1,23 +1,23 @@
 //! How many objects there are, and what they take.
 ghost use Rattle.std.specs.Prelude.{◌≡◌, ◌≤◌, ◌<◌, ◌+◌, ◌^◌};
-ghost use Rattle.shard_state.specs.Tallies.{one, load};
+ghost use Rattle.shard_state.specs.Totals.{one, load};
 
 use crate::held::Held;
 
 /// A number of objects, and the sum of what they take. What is more than a `u64` for one object counts as `u64::MAX`.
 #[derive(Clone, Copy)]
-pub(crate) struct Tally {
+pub(crate) struct ObjectTotals {
     pub count: usize,
     pub used: u128,
 }
 
-impl Tally {
+impl ObjectTotals {
     /// Of no objects.
-    pub fn none() -> Tally
+    pub fn none() -> ObjectTotals
         ensures count { result.count ≡ 0 }
         ensures used { result.used ≡ 0 }
     {
-        Tally { count: 0, used: 0 }
+        ObjectTotals { count: 0, used: 0 }
     }
 
     /// An object comes, if there is one.

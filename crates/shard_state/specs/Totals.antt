@@ -24,7 +24,7 @@ load None = 0
 load (Some o) = min (object_usage o) most
 
 -- places in the order of their names, the number of those that are filled, and the sum of what lies in them
-pub record IsTallied (places : List (List ℕ × Option ShardObject)) (n total : ℕ) : Type 0 where
+pub record AreTotals (places : List (List ℕ × Option ShardObject)) (n total : ℕ) : Type 0 where
   pub ordered : IsStrictlySortedBy (slice_cmp nat_cmp) (keys_of places)
   pub count : n ≡ sum_by one (values_of places)
   pub used : total ≡ sum_by load (values_of places)

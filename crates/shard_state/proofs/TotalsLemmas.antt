@@ -20,7 +20,7 @@ use Rattle.shard_model.specs.Objects.{ShardObject, put}
 use Rattle.shard_model.specs.Listings.{object_usage, usage, next_name}
 use Rattle.shard_model.proofs.PutLemmas.{put_own}
 use Rattle.shard_state.specs.Places.{joined, filled, inside}
-use Rattle.shard_state.specs.Tallies.{most, one, load, full, start_after, IsTallied}
+use Rattle.shard_state.specs.Totals.{most, one, load, full, start_after, AreTotals}
 use Rattle.shard_state.proofs.AscendLemmas.{both_true}
 use Rattle.shard_state.proofs.MapLemmas.{by_name}
 use Rattle.shard_state.proofs.PlaceLemmas.{get-filled}
@@ -91,9 +91,9 @@ one_each [] = refl
 one_each ((name, None) ∷ es) = omega (arith, one_each es, sum_by-cons one None (values_of es))
 one_each ((name, Some o) ∷ es) = omega (arith, one_each es, sum_by-cons one (Some o) (values_of es))
 
-pub count_is : (es : List Place) (n total : ℕ) → IsTallied es n total → n ≡ map.len (inside (map.from_entries es))
-count_is es n total tallied =
-    tallied.count ∙ sym (one_each es) ∙ ap length (sym (inside_listed es tallied.ordered)) ∙ sym (map.len-entries (inside (map.from_entries es)))
+pub count_is : (es : List Place) (n total : ℕ) → AreTotals es n total → n ≡ map.len (inside (map.from_entries es))
+count_is es n total totals =
+    totals.count ∙ sym (one_each es) ∙ ap length (sym (inside_listed es totals.ordered)) ∙ sym (map.len-entries (inside (map.from_entries es)))
 
 -- each part of a sum may be cut to a word before the sum is
 both_cut : (a b x : ℕ) → min a most ≡ min b most → min (min x most + a) most ≡ min (x + b) most
@@ -107,10 +107,10 @@ loads_cut ((name, Some o) ∷ es) =
     ∙ both_cut _ _ (object_usage o) (loads_cut es)
     ∙ ap (λ n. min n most) (sym (sum_by-cons object_usage o (each (λ e. e.1) (full es))))
 
-pub used_is : (es : List Place) (n total : ℕ) → IsTallied es n total → min total most ≡ min (usage (inside (map.from_entries es))) most
-used_is es n total tallied =
-    ap (λ m. min m most) tallied.used ∙ loads_cut es
-    ∙ ap (λ fs. min (sum_by object_usage (each (λ e. e.1) fs)) most) (sym (inside_listed es tallied.ordered))
+pub used_is : (es : List Place) (n total : ℕ) → AreTotals es n total → min total most ≡ min (usage (inside (map.from_entries es))) most
+used_is es n total totals =
+    ap (λ m. min m most) totals.used ∙ loads_cut es
+    ∙ ap (λ fs. min (sum_by object_usage (each (λ e. e.1) fs)) most) (sym (inside_listed es totals.ordered))
 
 few_ones : (os : List (Option ShardObject)) → sum_by one os ≤ length os
 few_ones [] = omega arith
@@ -122,46 +122,46 @@ few_loads [] = omega arith
 few_loads (None ∷ os) = omega (arith, few_loads os, sum_by-cons load None os)
 few_loads (Some o ∷ os) = omega (arith, few_loads os, sum_by-cons load (Some o) os)
 
-pub few_places : (es : List Place) (n total : ℕ) → IsTallied es n total → n ≤ length es
-few_places es n total tallied = omega (arith, tallied.count, few_ones (values_of es), length-values_of es)
+pub few_places : (es : List Place) (n total : ℕ) → AreTotals es n total → n ≤ length es
+few_places es n total totals = omega (arith, totals.count, few_ones (values_of es), length-values_of es)
 
-pub small_total : (es : List Place) (n total : ℕ) → IsTallied es n total → total ≤ length es * most
-small_total es n total tallied = omega (arith, tallied.used, few_loads (values_of es), length-values_of es)
+pub small_total : (es : List Place) (n total : ℕ) → AreTotals es n total → total ≤ length es * most
+small_total es n total totals = omega (arith, totals.used, few_loads (values_of es), length-values_of es)
 
 -- an empty place is made
-pub made_tallied : (es fs : List Place) (k : List ℕ) (n total : ℕ) → IsTallied es n total → lookup (is_at (by_name k)) es ≡ None
-    → fs ≡ insert_entry by_name es k None → IsStrictlySortedBy by_name (keys_of fs) → IsTallied fs n total
-made_tallied es fs k n total tallied none is ordered =
+pub made_totals : (es fs : List Place) (k : List ℕ) (n total : ℕ) → AreTotals es n total → lookup (is_at (by_name k)) es ≡ None
+    → fs ≡ insert_entry by_name es k None → IsStrictlySortedBy by_name (keys_of fs) → AreTotals fs n total
+made_totals es fs k n total totals none is ordered =
     let sums : (f : Option ShardObject → ℕ) → sum_by f (values_of (insert_entry by_name es k None)) + 0 ≡ sum_by f (values_of es) + f None =
     λ f. subst (λ o. sum_by f (values_of (insert_entry by_name es k None)) + unwrap_or (option_map f o) 0 ≡ sum_by f (values_of es) + f None) none
-    (sum_by-insert_entry f nat_list_cmp_total es k None tallied.ordered) in
+    (sum_by-insert_entry f nat_list_cmp_total es k None totals.ordered) in
     record {
       ordered = ordered;
-      count = omega (arith, tallied.count, sums one, ap (λ gs. sum_by one (values_of gs)) is);
-      used = omega (arith, tallied.used, sums load, ap (λ gs. sum_by load (values_of gs)) is);
+      count = omega (arith, totals.count, sums one, ap (λ gs. sum_by one (values_of gs)) is);
+      used = omega (arith, totals.used, sums load, ap (λ gs. sum_by load (values_of gs)) is);
     }
 
 -- what lies in a place is changed
-pub set_tallied : (es fs : List Place) (test : List ℕ → Bool) (v w : Option ShardObject) (n total n' total' : ℕ) → IsTallied es n total
+pub set_totals : (es fs : List Place) (test : List ℕ → Bool) (v w : Option ShardObject) (n total n' total' : ℕ) → AreTotals es n total
     → lookup test es ≡ Some v → fs ≡ set_value test es w → IsStrictlySortedBy by_name (keys_of fs)
-    → n' + one v ≡ n + one w → total' + load v ≡ total + load w → IsTallied fs n' total'
-set_tallied es fs test v w n total n' total' tallied there is ordered count used =
+    → n' + one v ≡ n + one w → total' + load v ≡ total + load w → AreTotals fs n' total'
+set_totals es fs test v w n total n' total' totals there is ordered count used =
     record {
       ordered = ordered;
-      count = omega (arith, tallied.count, count, sum_by-set_value one test es v w there, ap (λ gs. sum_by one (values_of gs)) is);
-      used = omega (arith, tallied.used, used, sum_by-set_value load test es v w there, ap (λ gs. sum_by load (values_of gs)) is);
+      count = omega (arith, totals.count, count, sum_by-set_value one test es v w there, ap (λ gs. sum_by one (values_of gs)) is);
+      used = omega (arith, totals.used, used, sum_by-set_value load test es v w there, ap (λ gs. sum_by load (values_of gs)) is);
     }
 
 -- an empty place is taken away
-pub swept_tallied : (es fs : List Place) (test : List ℕ → Bool) (n total : ℕ) → IsTallied es n total → lookup test es ≡ Some None
-    → fs ≡ remove_entry test es → IsStrictlySortedBy by_name (keys_of fs) → IsTallied fs n total
-swept_tallied es fs test n total tallied there is ordered =
+pub swept_totals : (es fs : List Place) (test : List ℕ → Bool) (n total : ℕ) → AreTotals es n total → lookup test es ≡ Some None
+    → fs ≡ remove_entry test es → IsStrictlySortedBy by_name (keys_of fs) → AreTotals fs n total
+swept_totals es fs test n total totals there is ordered =
     let sums : (f : Option ShardObject → ℕ) → sum_by f (values_of (remove_entry test es)) + f None ≡ sum_by f (values_of es) =
     λ f. subst (λ o. sum_by f (values_of (remove_entry test es)) + unwrap_or (option_map f o) 0 ≡ sum_by f (values_of es)) there (sum_by-remove_entry f test es) in
     record {
       ordered = ordered;
-      count = omega (arith, tallied.count, sums one, ap (λ gs. sum_by one (values_of gs)) is);
-      used = omega (arith, tallied.used, sums load, ap (λ gs. sum_by load (values_of gs)) is);
+      count = omega (arith, totals.count, sums one, ap (λ gs. sum_by one (values_of gs)) is);
+      used = omega (arith, totals.used, sums load, ap (λ gs. sum_by load (values_of gs)) is);
     }
 
 kept : (p : List ℕ → Bool) (es : List Place) → filter p (keys_of (full es)) ≡ keys_of (full (filter (λ e. p e.0 && true) es))
