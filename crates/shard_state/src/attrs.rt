@@ -1,5 +1,5 @@
 //! The attributes of an object.
-ghost use Rattle.std.specs.Prelude.{◌≡◌, ◌⊎◌, ◌≤◌, ◌<◌, true, length, min, slice_get, IsSome, IfOk, OnOk, OnErr};
+ghost use Rattle.std.specs.Prelude.{◌≡◌, ◌⊎◌, ◌↔◌, ◌≤◌, ◌<◌, ◌-◌, ◌^◌, true, length, min, slice_get, IsSome, IfOk, OnOk, OnErr};
 ghost use Rattle.std.specs.Option.{option_copied};
 ghost use Rattle.std.specs.Ordering.{nat_cmp};
 ghost use Rattle.std.specs.Cmp.Lexicographic.{slice_cmp};
@@ -85,9 +85,24 @@ impl Attrs {
         }
     }
 
-    /// The bytes of all names and values, or `u64::MAX` where there are more.
-    pub(crate) fn usage(&self) -> u64
-        ensures { result ≡ min (sum_by attr_usage (map.entries self.now)) most }
+    /// Whether both have the same attributes, with the same values.
+    pub fn is_same(&self, other: &Attrs) -> bool
+        ensures { (result ≡ true) ↔ (self.now ≡ other.now) }
+    {
+        are_same(&self.list, &other.list)
+    }
+
+    /// The names and values in ascending order, as a `Put` carries them.
+    pub fn to_pairs(&self, alloc: Global) -> Result<Pairs, NoMemory>
+        ensures { IfOk result (λ pairs. pairs ≡ map.entries self.now) }
+    {
+        let list = copy_pairs(alloc, &self.list)?;
+        Ok(Pairs::of(list))
+    }
+
+    /// The bytes of all names and values, or `u64::MAX` if there are more.
+    pub fn usage(&self) -> u64
+        ensures { result ≡ min (sum_by attr_usage (map.entries self.now)) (2 ^ 64 - 1) }
     {
         pairs_usage(&self.list)
     }
@@ -146,6 +161,27 @@ fn pairs_usage(list: &[(Name, Bytes)]) -> u64
         sum = sum.saturating_add(len as u64);
     }
     sum
+}
+
+/// Whether two lists of attributes are equal.
+fn are_same(left: &[(Name, Bytes)], right: &[(Name, Bytes)]) -> bool
+    ensures { (result ≡ true) ↔ (left.now ≡ right.now) }
+{
+    if left.len() != right.len() {
+        return false;
+    }
+    for i in 0..left.len() {
+        if !is_same_pair(&left[i], &right[i]) {
+            return false;
+        }
+    }
+    true
+}
+
+fn is_same_pair(left: &(Name, Bytes), right: &(Name, Bytes)) -> bool
+    ensures { (result ≡ true) ↔ (left.now ≡ right.now) }
+{
+    left.0 == right.0 && left.1 == right.1
 }
 
 fn copy_pairs(alloc: Global, list: &[(Name, Bytes)]) -> Result<Vec<(Name, Bytes)>, NoMemory>

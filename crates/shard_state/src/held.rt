@@ -1,7 +1,6 @@
 //! What a shard holds of an object.
-ghost use Rattle.std.specs.Prelude.{◌≡◌, min, IfOk};
+ghost use Rattle.std.specs.Prelude.{◌≡◌, ◌-◌, ◌^◌, min, IfOk};
 ghost use Rattle.shard_model.specs.Listings.{object_usage};
-ghost use Rattle.shard_state.specs.Totals.{most};
 
 use crate::attrs::Attrs;
 use ec_words::{Bytes, NoMemory};
@@ -27,9 +26,9 @@ impl Model for Held {
 }
 
 impl Held {
-    /// The size, and the bytes of the attributes' names and values; or `u64::MAX` where that is more.
-    pub(crate) fn usage(&self) -> u64
-        ensures { result ≡ min (object_usage self.now) most }
+    /// The size, and the bytes of the attributes' names and values; or `u64::MAX` if that is more.
+    pub fn usage(&self) -> u64
+        ensures { result ≡ min (object_usage self.now) (2 ^ 64 - 1) }
     {
         self.attrs.usage().saturating_add(u64::from(self.size))
     }
