@@ -15,7 +15,7 @@ use Rattle.std.specs.Result.{IsOk, IsErr}
 use Rattle.ec_code.specs.Encoding.{IsChunk}
 use Rattle.ec_tool.specs.Accesses.{Told, HasFile, Puts}
 use Rattle.ec_tool.specs.Files.{FileMap, KeepsOthers}
-use Rattle.ec_tool.specs.Pieces.{AreRowChunks, IsRowOf, HasChunksOf, WritesPieces}
+use Rattle.ec_tool.specs.Pieces.{AreRowChunks, HasChunksOf, WritesPieces}
 use Rattle.ec_tool.proofs.PieceLemmas.{is_first, is_later, next_piece, stopped_piece}
 
 -- ---- what stands behind whole stripes
@@ -175,7 +175,7 @@ next_in_place k unit count t row stripes now chunk lt room long has is = λ s b 
         (λ j lj. ap (field_product (slice_index row j)) (stripe_byte k unit stripes t j b lj lb))
 
 -- the chunks of whole stripes by a position's row are the position's list
-pub made_list : (code : CodeRows) (k unit count p : ℕ) (row stripes piece : List ℕ) → 0 < k * unit → k ≡ code.k → IsRowOf code p row → length stripes ≡ count * (k * unit)
+pub made_list : (code : CodeRows) (k unit count p : ℕ) (row stripes piece : List ℕ) → 0 < k * unit → k ≡ code.k → ((j : ℕ) → j < code.k → slice_index row j ≡ entry_at code.rows p j) → length stripes ≡ count * (k * unit)
     → length piece ≡ count * unit → AreRowChunks k unit row stripes count piece → IsPositionList code unit stripes p piece
 made_list code k unit count p row stripes piece some same entries whole long has =
     by_k (subst (λ (n : ℕ). 0 < n * unit) same some) (subst (λ (n : ℕ). length stripes ≡ count * (n * unit)) same whole) (subst (λ (n : ℕ). AreRowChunks n unit row stripes count piece) same has)

@@ -3,7 +3,7 @@ use Rattle.std.specs.Prelude.{◌≡◌, ◌<◌, ◌*◌, ◌+◌, ℕ, List, l
 use Rattle.std.specs.FinMap as map
 use Rattle.ec_model.specs.Codes.{CodeRows, IsPositionList}
 use Rattle.ec_model.specs.Field.{field_product}
-use Rattle.ec_model.specs.Rows.{entry_at, sum_below}
+use Rattle.ec_model.specs.Rows.{sum_below}
 use Rattle.ec_tool.specs.Accesses.{Told}
 use Rattle.ec_tool.specs.Files.{FileMap, KeepsOthers}
 
@@ -11,10 +11,6 @@ use Rattle.ec_tool.specs.Files.{FileMap, KeepsOthers}
 pub record AreWholeStripes (k unit : ℕ) (bytes : List ℕ) : Type 0 where
   pub count : ℕ
   pub long : length bytes ≡ count * (k * unit)
-
--- the first entries are those of a position's row
-abbrev pub IsRowOf : CodeRows → ℕ → List ℕ → Type 0
-IsRowOf code p row = (j : ℕ) → j < code.k → slice_index row j ≡ entry_at code.rows p j
 
 -- the chunks of the first `count` stripes by a row of k entries stand one after another
 abbrev pub AreRowChunks : ℕ → ℕ → List ℕ → List ℕ → ℕ → List ℕ → Type 0

@@ -10,7 +10,7 @@ ghost use Rattle.ec_tool.specs.Encoding.{WritesOne, WritesChunks};
 ghost use Rattle.ec_tool.specs.Files.{max_file};
 ghost use Rattle.ec_tool.specs.Requests.{job_of};
 ghost use Rattle.ec_tool.specs.Outcomes.{EncodeEnds};
-ghost use Rattle.ec_tool.specs.Pieces.{AreRowChunks, AreWholeStripes, IsRowOf, WritesPieces};
+ghost use Rattle.ec_tool.specs.Pieces.{AreRowChunks, AreWholeStripes, WritesPieces};
 ghost use Rattle.ec_tool.specs.Stops.{status_after, line_after};
 ghost use Rattle.ec_tool.specs.declared.limits.TheConstants.{PIECE};
 
@@ -22,7 +22,7 @@ use crate::naming::chunk_name;
 use crate::positions::positions;
 use crate::request::Coding;
 use crate::stop::Stop;
-use ec_code::{Code, encode_chunk};
+use ec_code::{Code, encode_chunk, row_of};
 use ec_words::{Bytes, Geometry, NoMemory};
 use rig_disk::Failed;
 use std::alloc::Global;
@@ -153,19 +153,6 @@ fn write_pieces<F: Files>(
         write_piece(file, i == 0, &row, g, stripes, part, made, files)?;
     }
     Ok(())
-}
-
-// The row of a position.
-fn row_of(code: &dyn Code, p: u8) -> [u8; 16]
-    requires { p < (meaning code.now).n }
-    ensures value { IsRowOf (meaning code.now) p result }
-    ensures few { (meaning code.now).k ≤ 16 }
-{
-    let mut row = [0u8; 16];
-    for j in 0..code.shape().k {
-        row[j as usize] = code.entry(p, j);
-    }
-    row
 }
 
 // At most `size` bytes of a file, from `at` on.

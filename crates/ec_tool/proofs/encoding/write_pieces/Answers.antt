@@ -94,7 +94,7 @@ loop-i-preserved g c =
     let there : c.stripes_of_piece.result * c.args.g.unit ≡ length c.loop-i.piece = ap (λ n. n * c.args.g.unit) c.stripes_of_piece.ensures.value ∙ sym c.requires.room ∙ sym c.loop-i.invariant.2 in
     let some = subst (λ (k : ℕ). 1 ≤ k * c.args.g.unit) c.requires.same_k width in
     let list = made_list code c.args.g.k c.args.g.unit (length c.part-part.result.now / (c.args.g.k * c.args.g.unit)) c.args.position c.row_of-row.result c.part-part.result.now c.write_piece.new.piece width c.requires.same_k
-    c.row_of-row.ensures.value whole c.write_piece.ensures.room c.write_piece.ensures.made in
+    c.row_of-row.ensures.inside whole c.write_piece.ensures.room c.write_piece.ensures.made in
     let next = subst (λ (l : List ℕ). IsPositionList code c.args.g.unit l c.args.position c.write_piece.new.piece) c.part-part.ensures list in (
       next_part code c.args.g.unit c.args.file.now c.args.bytes.now c.args.position c.stripes_of_piece.result (c.stripes_of_piece.result * (c.args.g.k * c.args.g.unit)) c.loop-i.i c.write_piece.new.piece
           (files c.args.files.now) (files c.loop-i.files) (files c.write_piece.new.files) c.write_piece.result some
