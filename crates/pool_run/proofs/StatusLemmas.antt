@@ -199,3 +199,16 @@ not_2 cause status before now never other = record {
   whole = λ e. absurd (other e);
   front = λ is. absurd (never is);
 }
+
+-- the statuses of a script, by what ended it
+pub run_statuses : (status : ℕ) → OneOf status (0 ∷ 1 ∷ 9 ∷ 13 ∷ []) → OneOf status (0 ∷ 1 ∷ 8 ∷ 9 ∷ 12 ∷ 13 ∷ [])
+run_statuses status (inl e) = inl e
+run_statuses status (inr (inl e)) = inr (inl e)
+run_statuses status (inr (inr (inl e))) = inr (inr (inr (inl e)))
+run_statuses status (inr (inr (inr (inl e)))) = inr (inr (inr (inr (inr (inl e)))))
+run_statuses status (inr (inr (inr (inr e)))) = absurd e
+
+pub long_statuses : (status : ℕ) → OneOf status (12 ∷ 9 ∷ []) → OneOf status (0 ∷ 1 ∷ 8 ∷ 9 ∷ 12 ∷ 13 ∷ [])
+long_statuses status (inl e) = inr (inr (inr (inr (inl e))))
+long_statuses status (inr (inl e)) = inr (inr (inr (inl e)))
+long_statuses status (inr (inr e)) = absurd e

@@ -1,3 +1,6 @@
+pub mod Boxes
+pub mod Counts
+pub mod Ends
 pub mod Grammar
 pub mod Laws
 pub mod Lines

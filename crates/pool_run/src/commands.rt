@@ -1,11 +1,12 @@
 //! The commands of the program, once the words are read.
-ghost use Rattle.std.specs.Prelude.{◌≡◌, ◌≢◌, ◌<◌, ◌≤◌, ◌∷◌, [], List, ℕ, Some, length, slice_index_or};
+ghost use Rattle.std.specs.Prelude.{◌≡◌, ◌≢◌, ◌<◌, ◌≤◌, ◌∷◌, [], List, ℕ, Some, length};
 ghost use Rattle.std.specs.Io.KnownBytes.{Appends};
 ghost use Rattle.rig_disk.specs.Faults.{Rose};
 ghost use Rattle.rig_disk.specs.Said.{SaysFront};
-ghost use Rattle.ec_code.specs.Profiles.{name_of};
 ghost use Rattle.ec_code.specs.Refusals.{IsAccepted, IsCodeOf};
-ghost use Rattle.pool_run.specs.Tries.{IsAnswered};
+ghost use Rattle.pool_run.specs.Boxes.{HaveEachPlugin, KeepNames};
+ghost use Rattle.pool_run.specs.Counts.{Counts, CountsOfRig};
+ghost use Rattle.pool_run.specs.Ends.{IsRefusedAtOnce, TriesScript};
 ghost use Rattle.plugin_reg.specs.Opening.{GivesProfile, IsRefused};
 ghost use Rattle.pool_run.specs.Profiles.{ShowsProfile, SaysFault, profile_text};
 ghost use Rattle.pool_run.specs.Script.{ReadsAll};
@@ -28,23 +29,17 @@ pub fn try_profile<R: Rig, S: Source>(
     rig: &mut R,
     source: &mut S,
 ) -> Status
-    requires { (q : _) → (i : ℕ) × (i < length codes.old) × ((d : _) → plugin_name (slice_index_or codes.old i d) ≡ name_of q) }
+    requires { HaveEachPlugin (λ box. plugin_name box) codes.old }
     ensures statuses { OneOf result.0 (0 ∷ 1 ∷ 3 ∷ 8 ∷ 9 ∷ 12 ∷ 13 ∷ []) }
-    ensures accepted { (p : _) → GivesProfile text.now p → OneOf result.0 (0 ∷ 1 ∷ 8 ∷ 9 ∷ 12 ∷ 13 ∷ []) }
-    ensures script { (p : _) (script : List ℕ) → GivesProfile text.now p → S.left source.old ≡ Some script
-        → IsAnswered script result.0 (R.said rig.old) (R.said rig.new) (S.left source.new) }
-    ensures refused { (f : _) → IsRefused text.now f → SaysFault text.now result.0 (R.said rig.old) (R.said rig.new) }
+    ensures script { (p : _) → GivesProfile text.now p
+        → TriesScript result.0 (R.said rig.old) (R.said rig.new) (S.left source.old) (S.left source.new) }
+    ensures refused { (f : _) → IsRefused text.now f
+        → IsRefusedAtOnce text.now result.0 (R.said rig.old) (R.said rig.new) source.old source.new }
     ensures status_3 { result.0 ≡ 3 → (f : _) × IsRefused text.now f }
-    ensures at_once { (f : _) → IsRefused text.now f → OneOf result.0 (3 ∷ 9 ∷ 13 ∷ []) × (source.new ≡ source.old) }
     ensures unread { result.0 ≡ 3 → source.new ≡ source.old }
     ensures too_long { result.0 ≡ 12 → Appends (R.said rig.old) (R.said rig.new) (line_of 12) }
-    ensures source { result.0 ≡ 8 → Rose (S.faults source.old) (S.faults source.new) }
-    ensures voice { result.0 ≡ 9 → Rose (R.faults rig.old VOICE) (R.faults rig.new VOICE) }
-    ensures quiet_source { OneOf result.0 (0 ∷ 1 ∷ []) → S.faults source.new ≡ S.faults source.old }
-    ensures quiet_voice { OneOf result.0 (0 ∷ 1 ∷ []) → R.faults rig.new VOICE ≡ R.faults rig.old VOICE }
-    ensures slots { (slot : ℕ) → slot ≢ VOICE → R.faults rig.new slot ≡ R.faults rig.old slot }
-    ensures boxes { length codes.new ≡ length codes.old }
-    ensures kept { (j : ℕ) (d : _) → plugin_name (slice_index_or codes.new j d) ≡ plugin_name (slice_index_or codes.old j d) }
+    ensures counts { Counts result.0 (S.faults source.old) (S.faults source.new) (R.faults rig.old) (R.faults rig.new) }
+    ensures boxes { KeepNames (λ box. plugin_name box) codes.old codes.new }
 {
     match open_profile(alloc, text, codes) {
         Ok(opened) => {
@@ -66,15 +61,9 @@ fn try_script<R: Rig, S: Source>(
 ) -> Status
     requires some { 1 ≤ unit }
     requires few { unit ≤ 65536 }
-    ensures statuses { OneOf result.0 (0 ∷ 1 ∷ 8 ∷ 9 ∷ 12 ∷ 13 ∷ []) }
-    ensures script { (script : List ℕ) → S.left source.old ≡ Some script
-        → IsAnswered script result.0 (R.said rig.old) (R.said rig.new) (S.left source.new) }
+    ensures script { TriesScript result.0 (R.said rig.old) (R.said rig.new) (S.left source.old) (S.left source.new) }
     ensures too_long { result.0 ≡ 12 → Appends (R.said rig.old) (R.said rig.new) (line_of 12) }
-    ensures source { result.0 ≡ 8 → Rose (S.faults source.old) (S.faults source.new) }
-    ensures voice { result.0 ≡ 9 → Rose (R.faults rig.old VOICE) (R.faults rig.new VOICE) }
-    ensures quiet_source { OneOf result.0 (0 ∷ 1 ∷ []) → S.faults source.new ≡ S.faults source.old }
-    ensures quiet_voice { OneOf result.0 (0 ∷ 1 ∷ []) → R.faults rig.new VOICE ≡ R.faults rig.old VOICE }
-    ensures slots { (slot : ℕ) → slot ≢ VOICE → R.faults rig.new slot ≡ R.faults rig.old slot }
+    ensures counts { Counts result.0 (S.faults source.old) (S.faults source.new) (R.faults rig.old) (R.faults rig.new) }
 {
     match read_input(alloc, source) {
         Ok(script) => run_script(alloc, &script, code, unit, rig),
@@ -91,7 +80,7 @@ pub fn show_input<R: Rig, S: Source>(
     rig: &mut R,
     source: &mut S,
 ) -> Status
-    requires { (q : _) → (i : ℕ) × (i < length codes.old) × ((d : _) → plugin_name (slice_index_or codes.old i d) ≡ name_of q) }
+    requires { HaveEachPlugin (λ box. plugin_name box) codes.old }
     ensures statuses { OneOf result.0 (0 ∷ 3 ∷ 8 ∷ 9 ∷ 12 ∷ 13 ∷ []) }
     ensures shown { (text : List ℕ) (p : _) → S.left source.old ≡ Some text → length text ≤ max_input → GivesProfile text p
         → ShowsProfile p result.0 (R.said rig.old) (R.said rig.new) }
@@ -100,13 +89,8 @@ pub fn show_input<R: Rig, S: Source>(
     ensures status_3 { result.0 ≡ 3 → (text : List ℕ) × (f : _) × IsRefused text f × ReadsAll (S.left source.old) (S.left source.new) text }
     ensures status_12 { (text : List ℕ) → S.left source.old ≡ Some text → ComesFor (max_input < length text) 12 (8 ∷ 9 ∷ 13 ∷ []) result.0 }
     ensures too_long { result.0 ≡ 12 → Appends (R.said rig.old) (R.said rig.new) (line_of 12) }
-    ensures source { result.0 ≡ 8 → Rose (S.faults source.old) (S.faults source.new) }
-    ensures voice { result.0 ≡ 9 → Rose (R.faults rig.old VOICE) (R.faults rig.new VOICE) }
-    ensures quiet_source { result.0 ≡ 0 → S.faults source.new ≡ S.faults source.old }
-    ensures quiet_voice { result.0 ≡ 0 → R.faults rig.new VOICE ≡ R.faults rig.old VOICE }
-    ensures slots { (slot : ℕ) → slot ≢ VOICE → R.faults rig.new slot ≡ R.faults rig.old slot }
-    ensures boxes { length codes.new ≡ length codes.old }
-    ensures kept { (j : ℕ) (d : _) → plugin_name (slice_index_or codes.new j d) ≡ plugin_name (slice_index_or codes.old j d) }
+    ensures counts { Counts result.0 (S.faults source.old) (S.faults source.new) (R.faults rig.old) (R.faults rig.new) }
+    ensures boxes { KeepNames (λ box. plugin_name box) codes.old codes.new }
 {
     match read_input(alloc, source) {
         Ok(text) => show_profile(alloc, &text, codes, rig),
@@ -123,16 +107,13 @@ pub fn show_profile<R: Rig>(
     codes: &mut [Box<dyn Code>],
     rig: &mut R,
 ) -> Status
-    requires { (q : _) → (i : ℕ) × (i < length codes.old) × ((d : _) → plugin_name (slice_index_or codes.old i d) ≡ name_of q) }
+    requires { HaveEachPlugin (λ box. plugin_name box) codes.old }
     ensures statuses { OneOf result.0 (0 ∷ 3 ∷ 9 ∷ 13 ∷ []) }
     ensures shown { (p : _) → GivesProfile text.now p → ShowsProfile p result.0 (R.said rig.old) (R.said rig.new) }
     ensures refused { (f : _) → IsRefused text.now f → SaysFault text.now result.0 (R.said rig.old) (R.said rig.new) }
     ensures status_3 { result.0 ≡ 3 → (f : _) × IsRefused text.now f }
-    ensures voice { result.0 ≡ 9 → Rose (R.faults rig.old VOICE) (R.faults rig.new VOICE) }
-    ensures quiet { result.0 ≡ 0 → R.faults rig.new VOICE ≡ R.faults rig.old VOICE }
-    ensures slots { (slot : ℕ) → slot ≢ VOICE → R.faults rig.new slot ≡ R.faults rig.old slot }
-    ensures boxes { length codes.new ≡ length codes.old }
-    ensures kept { (j : ℕ) (d : _) → plugin_name (slice_index_or codes.new j d) ≡ plugin_name (slice_index_or codes.old j d) }
+    ensures counts { CountsOfRig result.0 (R.faults rig.old) (R.faults rig.new) }
+    ensures boxes { KeepNames (λ box. plugin_name box) codes.old codes.new }
 {
     match open_profile(alloc, text, codes) {
         Ok(opened) => show_code(alloc, &opened.profile, codes[opened.index].as_ref(), rig),
@@ -147,9 +128,7 @@ fn show_code<R: Rig>(alloc: Global, profile: &Profile, code: &dyn Code, rig: &mu
     requires made { IsCodeOf profile.now (meaning code.now) }
     ensures shown { ShowsProfile profile.now result.0 (R.said rig.old) (R.said rig.new) }
     ensures statuses { OneOf result.0 (0 ∷ 9 ∷ 13 ∷ []) }
-    ensures voice { result.0 ≡ 9 → Rose (R.faults rig.old VOICE) (R.faults rig.new VOICE) }
-    ensures quiet { result.0 ≡ 0 → R.faults rig.new VOICE ≡ R.faults rig.old VOICE }
-    ensures slots { (slot : ℕ) → slot ≢ VOICE → R.faults rig.new slot ≡ R.faults rig.old slot }
+    ensures counts { CountsOfRig result.0 (R.faults rig.old) (R.faults rig.new) }
 {
     match print_code(alloc, profile, code) {
         Ok(text) => say_last(rig, text.as_slice(), 0),
@@ -161,8 +140,7 @@ fn show_code<R: Rig>(alloc: Global, profile: &Profile, code: &dyn Code, rig: &mu
 fn refuse<R: Rig>(alloc: Global, fault: &ProfileFault, rig: &mut R) -> Status
     ensures refused { (text : List ℕ) → IsRefused text fault.now → SaysFault text result.0 (R.said rig.old) (R.said rig.new) }
     ensures statuses { OneOf result.0 (3 ∷ 9 ∷ 13 ∷ []) }
-    ensures voice { result.0 ≡ 9 → Rose (R.faults rig.old VOICE) (R.faults rig.new VOICE) }
-    ensures slots { (slot : ℕ) → slot ≢ VOICE → R.faults rig.new slot ≡ R.faults rig.old slot }
+    ensures counts { CountsOfRig result.0 (R.faults rig.old) (R.faults rig.new) }
 {
     match print_fault(alloc, fault) {
         Ok(line) => say_last(rig, line.as_slice(), 3),

@@ -10,22 +10,22 @@ try_script-requires-clause-some g c = (accepted_unit c.in-Ok.opened.profile c.in
 pub try_script-requires-clause-few : goal.try_script-requires-clause-few
 try_script-requires-clause-few g c = (accepted_unit c.in-Ok.opened.profile c.in-Ok.ensures.gives.accepted).1
 
-pub returns-in-Ok-clause-script : goal.returns-in-Ok-clause-script
-returns-in-Ok-clause-script g c = λ p script gives told. c.try_script.ensures.script script told
+pub returns-in-Ok-clause-refused : goal.returns-in-Ok-clause-refused
+returns-in-Ok-clause-refused g c = λ f is. absurd (given_not_refused c.args.text.now c.in-Ok.opened.profile f c.in-Ok.ensures.gives is)
 
 pub returns-in-Err-Profile-clause-script : goal.returns-in-Err-Profile-clause-script
-returns-in-Err-Profile-clause-script g c = λ p script gives told. absurd (given_not_refused c.args.text.now p c.in-Err-Profile.fault gives
+returns-in-Err-Profile-clause-script g c = λ p gives. absurd (given_not_refused c.args.text.now p c.in-Err-Profile.fault gives
     (c.in-Err-Profile.ensures.refused c.in-Err-Profile.fault (ap Err c.in-Err-Profile.field-0-is)))
 
 pub returns-in-Err-Profile-clause-refused : goal.returns-in-Err-Profile-clause-refused
-returns-in-Err-Profile-clause-refused g c = λ f is. c.refuse.ensures.refused c.args.text.now (c.in-Err-Profile.ensures.refused c.in-Err-Profile.fault (ap Err c.in-Err-Profile.field-0-is))
+returns-in-Err-Profile-clause-refused g c = λ f is. record {
+  says = c.refuse.ensures.refused c.args.text.now (c.in-Err-Profile.ensures.refused c.in-Err-Profile.fault (ap Err c.in-Err-Profile.field-0-is));
+  statuses = c.refuse.ensures.statuses;
+  untouched = refl;
+}
 
 pub returns-in-Err-NoMemory-clause-script : goal.returns-in-Err-NoMemory-clause-script
-returns-in-Err-NoMemory-clause-script g c = λ p script gives told. nothing_said script 13 _ _ (inr (inl refl))
-
-pub returns-in-Err-Profile-clause-accepted : goal.returns-in-Err-Profile-clause-accepted
-returns-in-Err-Profile-clause-accepted g c = λ p gives. absurd (given_not_refused c.args.text.now p c.in-Err-Profile.fault gives
-    (c.in-Err-Profile.ensures.refused c.in-Err-Profile.fault (ap Err c.in-Err-Profile.field-0-is)))
-
-pub returns-in-Ok-clause-at_once : goal.returns-in-Ok-clause-at_once
-returns-in-Ok-clause-at_once g c = λ f is. absurd (given_not_refused c.args.text.now c.in-Ok.opened.profile f c.in-Ok.ensures.gives is)
+returns-in-Err-NoMemory-clause-script g c = λ p gives. record {
+  statuses = inr (inr (inr (inr (inr (inl refl)))));
+  answered = λ script told. nothing_said script 13 _ _ (inr (inl refl));
+}

@@ -1,4 +1,4 @@
-use Rattle.std.proofs.Common.{List, ℕ, inr, refl, sym, subst, ◌∙◌, arith}
+use Rattle.std.proofs.Common.{List, ℕ, inr, refl, sym, subst, ◌∙◌, arith, rules}
 use Rattle.plugin_reg.specs.Opening.{GivesProfile, IsRefused}
 use Rattle.pool_run.specs.Profiles.{SaysFault}
 use Rattle.pool_run.proofs.StatusLemmas.{completed, long_script, not_2}
@@ -8,64 +8,61 @@ use Rattle.pool_run.proofs.program.ecpool.Goals as goal
 pub returns-in-Wrong-clause-tried : goal.returns-in-Wrong-clause-tried
 returns-in-Wrong-clause-tried g c = λ profile script p ask gives told. absurd ((c.in-Wrong.ensures profile).0 ask)
 
-pub returns-in-Wrong-clause-complete : goal.returns-in-Wrong-clause-complete
-returns-in-Wrong-clause-complete g c = λ profile script p ask gives told quiet voice. absurd ((c.in-Wrong.ensures profile).0 ask)
-
 pub returns-in-Wrong-clause-shown : goal.returns-in-Wrong-clause-shown
 returns-in-Wrong-clause-shown g c = λ profile p asks gives. absurd (wrong_for c.args.words.now _ profile c.in-Wrong.ensures (inr asks))
 
 pub returns-in-Wrong-clause-refused : goal.returns-in-Wrong-clause-refused
 returns-in-Wrong-clause-refused g c = λ profile f asks is. absurd (wrong_for c.args.words.now _ profile c.in-Wrong.ensures asks)
 
-pub returns-in-Wrong-clause-status_12 : goal.returns-in-Wrong-clause-status_12
-returns-in-Wrong-clause-status_12 g c = λ profile script p ask gives told. absurd ((c.in-Wrong.ensures profile).0 ask)
+pub returns-in-Wrong-clause-causes : goal.returns-in-Wrong-clause-causes
+returns-in-Wrong-clause-causes g c = record {
+  status_2 = search rules;
+  status_3 = search rules;
+  long_profile = λ input ask told. absurd ((c.in-Wrong.ensures _).1 ask);
+  too_long = search rules;
+}
 
-pub returns-in-Wrong-clause-long_profile : goal.returns-in-Wrong-clause-long_profile
-returns-in-Wrong-clause-long_profile g c = λ input ask told. absurd ((c.in-Wrong.ensures _).1 ask)
+pub returns-in-Wrong-clause-input : goal.returns-in-Wrong-clause-input
+returns-in-Wrong-clause-input g c = record {
+  unread = λ one other. refl;
+  at_once = λ profile needs. absurd (wrong_needs c.args.words.now profile c.in-Wrong.ensures needs);
+}
 
 pub returns-in-Try-clause-tried : goal.returns-in-Try-clause-tried
 returns-in-Try-clause-tried g c = λ profile script p ask gives told.
     let same = c.as_bytes.ensures.value ∙ same_try c.args.words.now _ profile c.in-Try.ensures ask in
-    c.try_profile.ensures.script p script (subst (λ (t : List ℕ). GivesProfile t p) (sym same) gives) told
-
-pub returns-in-Try-clause-complete : goal.returns-in-Try-clause-complete
-returns-in-Try-clause-complete g c = λ profile script p ask gives told quiet voice.
-    let same = c.as_bytes.ensures.value ∙ same_try c.args.words.now _ profile c.in-Try.ensures ask in
-    let given = subst (λ (t : List ℕ). GivesProfile t p) (sym same) gives in
-    completed script c.try_profile.result.0 _ _ _ (c.try_profile.ensures.script p script given told) (c.try_profile.ensures.accepted p given)
-    (λ e. quiet (c.try_profile.ensures.source e)) (λ e. voice (c.try_profile.ensures.voice e))
+    let tries = c.try_profile.ensures.script p (subst (λ (t : List ℕ). GivesProfile t p) (sym same) gives) in
+    let answered = tries.answered script told in
+    record {
+      answered = answered;
+      complete = λ quiet voice. completed script c.try_profile.result.0 _ _ _ answered tries.statuses
+          (λ e. quiet (c.try_profile.ensures.counts.input.failed e)) (λ e. voice (c.try_profile.ensures.counts.rig.voice e));
+      status_12 = long_script script c.try_profile.result.0 _ _ _ answered tries.statuses;
+    }
 
 pub returns-in-Try-clause-refused : goal.returns-in-Try-clause-refused
 returns-in-Try-clause-refused g c = λ profile f asks is.
     let same = c.as_bytes.ensures.value ∙ try_for c.args.words.now _ _ profile c.in-Try.ensures asks in
     subst (λ (t : List ℕ). SaysFault t c.try_profile.result.0 (g.R.Rig.said c.args.rig.now) (g.R.Rig.said c.try_profile.new.rig)) same
-    (c.try_profile.ensures.refused f (subst (λ (t : List ℕ). IsRefused t f) (sym same) is))
+    (c.try_profile.ensures.refused f (subst (λ (t : List ℕ). IsRefused t f) (sym same) is)).says
 
-pub returns-in-Wrong-clause-at_once : goal.returns-in-Wrong-clause-at_once
-returns-in-Wrong-clause-at_once g c = λ profile needs. absurd (wrong_needs c.args.words.now profile c.in-Wrong.ensures needs)
+pub returns-in-Try-clause-causes : goal.returns-in-Try-clause-causes
+returns-in-Try-clause-causes g c = record {
+  status_2 = not_2 _ c.try_profile.result.0 _ _ (λ wrong. (wrong _).0 c.in-Try.ensures) (λ e. grind (arith, e, c.try_profile.ensures.statuses));
+  status_3 = search rules;
+  long_profile = search rules;
+  too_long = c.try_profile.ensures.too_long;
+}
 
-pub returns-in-Try-clause-at_once : goal.returns-in-Try-clause-at_once
-returns-in-Try-clause-at_once g c = λ profile needs.
-    let found = try_needs c.args.words.now _ profile c.in-Try.ensures needs in
-    let same = c.as_bytes.ensures.value ∙ found.0 in
-    let ended = c.try_profile.ensures.at_once found.1.0 (subst (λ (t : List ℕ). IsRefused t found.1.0) (sym same) found.1.1) in
-    (inr ended.0, ended.1)
-
-pub returns-in-Show-clause-at_once : goal.returns-in-Show-clause-at_once
-returns-in-Show-clause-at_once g c = λ profile needs. (c.show_profile.ensures.statuses, refl)
-
-pub returns-in-ShowInput-clause-at_once : goal.returns-in-ShowInput-clause-at_once
-returns-in-ShowInput-clause-at_once g c = λ profile needs. absurd (input_needs c.args.words.now profile c.in-ShowInput.ensures needs)
-
-pub returns-in-Try-clause-status_2 : goal.returns-in-Try-clause-status_2
-returns-in-Try-clause-status_2 g c =
-    not_2 _ c.try_profile.result.0 _ _ (λ wrong. (wrong _).0 c.in-Try.ensures) (λ e. grind (arith, e, c.try_profile.ensures.statuses))
-
-pub returns-in-Try-clause-status_12 : goal.returns-in-Try-clause-status_12
-returns-in-Try-clause-status_12 g c = λ profile script p ask gives told.
-    let same = c.as_bytes.ensures.value ∙ same_try c.args.words.now _ profile c.in-Try.ensures ask in
-    let given = subst (λ (t : List ℕ). GivesProfile t p) (sym same) gives in
-    long_script script c.try_profile.result.0 _ _ _ (c.try_profile.ensures.script p script given told) (c.try_profile.ensures.accepted p given)
+pub returns-in-Try-clause-input : goal.returns-in-Try-clause-input
+returns-in-Try-clause-input g c = record {
+  unread = search rules;
+  at_once = λ profile needs.
+      let found = try_needs c.args.words.now _ profile c.in-Try.ensures needs in
+      let same = c.as_bytes.ensures.value ∙ found.0 in
+      let ended = c.try_profile.ensures.refused found.1.0 (subst (λ (t : List ℕ). IsRefused t found.1.0) (sym same) found.1.1) in
+      (inr ended.statuses, ended.untouched);
+}
 
 pub returns-in-Show-clause-shown : goal.returns-in-Show-clause-shown
 returns-in-Show-clause-shown g c = λ profile p asks gives.
@@ -78,9 +75,16 @@ returns-in-Show-clause-refused g c = λ profile f asks is.
     subst (λ (t : List ℕ). SaysFault t c.show_profile.result.0 (g.R.Rig.said c.args.rig.now) (g.R.Rig.said c.show_profile.new.rig)) same
     (c.show_profile.ensures.refused f (subst (λ (t : List ℕ). IsRefused t f) (sym same) is))
 
-pub returns-in-Show-clause-status_2 : goal.returns-in-Show-clause-status_2
-returns-in-Show-clause-status_2 g c =
-    not_2 _ c.show_profile.result.0 _ _ (λ wrong. (wrong _).1 c.in-Show.ensures.0) (λ e. grind (arith, e, c.show_profile.ensures.statuses))
+pub returns-in-Show-clause-causes : goal.returns-in-Show-clause-causes
+returns-in-Show-clause-causes g c = record {
+  status_2 = not_2 _ c.show_profile.result.0 _ _ (λ wrong. (wrong _).1 c.in-Show.ensures.0) (λ e. grind (arith, e, c.show_profile.ensures.statuses));
+  status_3 = search rules;
+  long_profile = search rules;
+  too_long = search rules;
+}
+
+pub returns-in-Show-clause-input : goal.returns-in-Show-clause-input
+returns-in-Show-clause-input g c = record { unread = λ one other. refl; at_once = λ profile needs. (c.show_profile.ensures.statuses, refl) }
 
 pub returns-in-ShowInput-clause-shown : goal.returns-in-ShowInput-clause-shown
 returns-in-ShowInput-clause-shown g c = λ profile p asks gives.
@@ -92,9 +96,19 @@ returns-in-ShowInput-clause-refused g c = λ profile f asks is.
     let told = input_for c.args.words.now _ profile c.in-ShowInput.ensures asks in
     c.show_input.ensures.refused profile f told.0 told.1 is
 
-pub returns-in-ShowInput-clause-status_2 : goal.returns-in-ShowInput-clause-status_2
-returns-in-ShowInput-clause-status_2 g c =
-    not_2 _ c.show_input.result.0 _ _ (λ wrong. (wrong _).1 c.in-ShowInput.ensures) (λ e. grind (arith, e, c.show_input.ensures.statuses))
+pub returns-in-ShowInput-clause-causes : goal.returns-in-ShowInput-clause-causes
+returns-in-ShowInput-clause-causes g c = record {
+  status_2 = not_2 _ c.show_input.result.0 _ _ (λ wrong. (wrong _).1 c.in-ShowInput.ensures) (λ e. grind (arith, e, c.show_input.ensures.statuses));
+  status_3 = search rules;
+  long_profile = λ text ask told. c.show_input.ensures.status_12 text told;
+  too_long = c.show_input.ensures.too_long;
+}
+
+pub returns-in-ShowInput-clause-input : goal.returns-in-ShowInput-clause-input
+returns-in-ShowInput-clause-input g c = record {
+  unread = λ one other. absurd (other c.in-ShowInput.ensures);
+  at_once = λ profile needs. absurd (input_needs c.args.words.now profile c.in-ShowInput.ensures needs);
+}
 
 pub try_profile-requires : goal.try_profile-requires
 try_profile-requires g c = λ q. rw c.deref_mut.ensures.value (c.requires q)
