@@ -9,6 +9,7 @@ pub mod Shelved
 pub mod ShelfCode
 pub mod Shelves
 pub mod Faults
+pub mod Fronts
 pub mod Stored
 pub mod Stories
 pub mod Told

@@ -1,8 +1,10 @@
 //! Copies of steps.
-ghost use Rattle.std.specs.Prelude.{◌≡◌, ◌<◌, IfOk};
+ghost use Rattle.std.specs.Prelude.{◌≡◌, ◌<◌, IfOk, true};
 ghost use Rattle.std.specs.List.{AllByRecursion};
 ghost use Rattle.shard_model.specs.StepBytes.{step_bytes, HasWords, IsName, IsWord, IsWritable, HasShortLists};
+ghost use Rattle.shard_state.specs.Doing.{is_entry};
 ghost use Rattle.shard_state.specs.StepMeanings.{step_of};
+ghost use Rattle.shard_store.specs.Fronts.{HasFront};
 
 use ec_words::{Bytes, Name, NoMemory, Version};
 use shard_state::{Pairs, Step, StepsFault, decode_steps, encode_steps};
@@ -35,54 +37,6 @@ fn has_its_place(step: &Step)
     ensures { IsWritable (step_of step.now) }
 {
     match step {
-        Step::Write {
-            version,
-            prior,
-            name,
-            fresh,
-            size,
-            at,
-            ..
-        } => {
-            have_their_place(version, prior, name);
-            is_a_byte(*fresh);
-            is_a_word(*size);
-            is_a_word(*at);
-        }
-        Step::Replace {
-            version,
-            prior,
-            name,
-            size,
-            ..
-        } => {
-            have_their_place(version, prior, name);
-            is_a_word(*size);
-        }
-        Step::Remove {
-            version,
-            prior,
-            name,
-        } => have_their_place(version, prior, name),
-        Step::SetAttr {
-            version,
-            prior,
-            name,
-            attr,
-            ..
-        } => {
-            have_their_place(version, prior, name);
-            is_a_name(attr);
-        }
-        Step::RemoveAttr {
-            version,
-            prior,
-            name,
-            attr,
-        } => {
-            have_their_place(version, prior, name);
-            is_a_name(attr);
-        }
         Step::Back(version) => is_a_version(version),
         Step::Started(epoch) => is_a_word(*epoch),
         Step::Firm(version) => is_a_version(version),
@@ -104,6 +58,71 @@ fn has_its_place(step: &Step)
             is_a_version(version);
             is_a_word(*epoch);
         }
+        _ => entry_has_its_place(step),
+    }
+}
+
+/// So have those of an entry's step.
+fn entry_has_its_place(step: &Step)
+    requires entry { is_entry (step_of step.now) ≡ true }
+    requires short { HasShortLists (step_of step.now) }
+    ensures { IsWritable (step_of step.now) }
+{
+    front_has_its_place(step);
+    match step {
+        Step::Write {
+            fresh,
+            size,
+            at,
+            ..
+        } => {
+            is_a_byte(*fresh);
+            is_a_word(*size);
+            is_a_word(*at);
+        }
+        Step::Replace { size, .. } => is_a_word(*size),
+        Step::Remove { .. } => {}
+        Step::SetAttr { attr, .. } => is_a_name(attr),
+        Step::RemoveAttr { attr, .. } => is_a_name(attr),
+        _ => {}
+    }
+}
+
+/// So has what every entry's step begins with.
+fn front_has_its_place(step: &Step)
+    ensures { HasFront (step_of step.now) }
+{
+    match step {
+        Step::Write {
+            version,
+            prior,
+            name,
+            ..
+        } => have_their_place(version, prior, name),
+        Step::Replace {
+            version,
+            prior,
+            name,
+            ..
+        } => have_their_place(version, prior, name),
+        Step::Remove {
+            version,
+            prior,
+            name,
+        } => have_their_place(version, prior, name),
+        Step::SetAttr {
+            version,
+            prior,
+            name,
+            ..
+        } => have_their_place(version, prior, name),
+        Step::RemoveAttr {
+            version,
+            prior,
+            name,
+            ..
+        } => have_their_place(version, prior, name),
+        _ => {}
     }
 }
 
