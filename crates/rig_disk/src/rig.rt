@@ -135,7 +135,8 @@ pub trait Rig {
         ensures kept { KeepsOthers is_here reads said faults syncs bytes_written bytes_read
             slot area self.old self.new };
 
-    /// After it a crash leaves in the area what a read gives.
+    /// After it a crash leaves in the area what a read gives. After `Failed` reads may give less: a device may drop what it
+    /// could not write.
     fn sync(&mut self, slot: u8, area: u8) -> Result<(), Failed>
         requires slot { slot ≤ 16 }
         requires area { area ≤ 1 }
@@ -147,7 +148,8 @@ pub trait Rig {
             (λ image text. images self.old (clock self.old) image text) }
         ensures counts { Spends syncs bytes_written bytes_read slot 1 0 0 self.old self.new }
         ensures counted { OnOk result (syncs self.new slot ≡ more 1 (syncs self.old slot)) }
-        ensures reads { reads self.new slot area ≡ reads self.old slot area }
+        ensures reads { OnOk result (reads self.new slot area ≡ reads self.old slot area) }
+        ensures told { OnErr result (IsSome (reads self.old slot area) ↔ IsSome (reads self.new slot area)) }
         ensures kept { KeepsOthers is_here reads said faults syncs bytes_written bytes_read
             slot area self.old self.new };
 

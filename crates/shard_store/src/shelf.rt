@@ -151,7 +151,7 @@ impl Shelf {
         ensures others { Counts self.old self.new slot }
         ensures read { Adds (length into.old) (R.bytes_read _rig.old slot) (R.bytes_read _rig.new slot) }
         ensures kept { OnlyReads R.is_here R.reads R.said R.clock R.images R.faults R.syncs R.bytes_written R.bytes_read
-            slot 0 _rig.old _rig.new }
+            slot _rig.old _rig.new }
     {
         self.fetch_known(slot, name, at, into)
     }

@@ -9,7 +9,7 @@ ghost use Rattle.shard_state.specs.StepMeanings.{step_of};
 ghost use Rattle.slot_journal.specs.Journal.{room_of, InSlot, HaveInUse};
 ghost use Rattle.slot_journal.specs.InUse.{told_text};
 ghost use Rattle.slot_journal.specs.Limits.{make_syncs, make_reads, load_syncs, commit_syncs, commit_bytes, prefix_len};
-ghost use Rattle.slot_journal.specs.Reading.{KeepsOtherSlots, OnlyReads};
+ghost use Rattle.slot_journal.specs.Reading.{KeepsOtherSlots, SyncsAndReads};
 ghost use Rattle.slot_journal.specs.Text.{max_body, IsBadText};
 ghost use Rattle.shard_store.specs.Limits.{store_bytes};
 ghost use Rattle.shard_store.specs.Stories.{fresh_shard, shard_after, first_steps, shard_head, IsBadStory};
@@ -107,8 +107,8 @@ impl Store {
             → told_text slot (R.reads rig.old slot) ≡ Some text → HaveInUse (R.images rig.new (R.clock rig.new)) slot text }
         ensures spent { IsErrOf result Spent → ⊥ }
         ensures only_if_fault { HasStoreCause (R.faults rig.old slot) (R.faults rig.new slot) result }
-        ensures kept { OnlyReads R.is_here R.reads R.said R.clock R.images R.faults R.syncs R.bytes_written R.bytes_read
-            slot load_syncs rig.old rig.new }
+        ensures kept { SyncsAndReads R.is_here R.reads R.said R.clock R.images R.faults R.syncs R.bytes_written R.bytes_read
+            slot load_syncs (IsErrOf result SlotFailed) rig.old rig.new }
     {
         match Journal::load(alloc, rig, slot, &shard_head(slot, g, n)) {
             Ok((journal, bodies)) => {

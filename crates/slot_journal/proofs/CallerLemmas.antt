@@ -1,5 +1,5 @@
 -- What a journal holds stays while other slots are worked on, and what calls keep of other slots: what layers above cite.
-use Rattle.std.proofs.Common.{◌≡◌, ◌≢◌, inl, inr, ℕ, List, Option, ◌∙◌, sym, ap}
+use Rattle.std.proofs.Common.{◌≡◌, ◌≢◌, ◌↔◌, inl, inr, ℕ, List, Option, Result, Ok, Err, IsSome, IsErrOf, true, false, ◌∙◌, sym, ap, subst}
 use Rattle.std.proofs.lemmas.Bool.{cases_eq}
 use Rattle.rig_disk.specs.Disk.{Image, Saying, on_told}
 use Rattle.rig_disk.specs.During.{During}
@@ -7,7 +7,9 @@ use Rattle.rig_disk.specs.Frame.{KeepsOthers}
 use Rattle.rig_disk.proofs.Moments.{at_end}
 use Rattle.slot_journal.specs.InUse.{Areas, open_text, first_told}
 use Rattle.slot_journal.specs.Journal.{slot_of, Holds, IsSettledWhereTold, InSlot}
-use Rattle.slot_journal.specs.Reading.{KeepsOtherSlots, OnlyReads, OnlyReadsArea}
+use Rattle.slot_journal.specs.Reading.{KeepsOtherSlots, SyncsAndReads, SyncsAndReadsArea}
+use Rattle.slot_journal.specs.declared.fault.JournalFault.{JournalFault}
+use Rattle.slot_journal.specs.declared.fault.JournalFault.TheVariants.{Failed, BadSlot, NoMemory}
 use Rattle.slot_journal.specs.declared.journal.Journal.{Journal}
 
 module _ {R : Type 0} (reads_of : R → ℕ → ℕ → Option (List ℕ)) (clock_of : R → ℕ) (images_of : R → ℕ → Image → List ℕ → Type 0) (old new : R) (journal : Journal)
@@ -82,21 +84,41 @@ module _ {R : Type 0} (is_here : R → ℕ → Type 0) (reads_of : R → ℕ →
       → KeepsOtherSlots is_here reads_of said_of faults_of syncs_of written_of read_of slot old new
   other_slots old new kept = record { here = kept.here; reads = λ s a other. kept.reads s a (inl other); said = kept.said; counts = kept.counts }
 
+-- an answer that is no failure
+pub ok_unfailed : {T : Type 0} (value : T) → ◌≡◌ {A = Result T JournalFault} (Ok value) (Err Failed) → ⊥
+ok_unfailed value e = cc
+
+pub ok_not_err : false ≡ true → ⊥
+ok_not_err e = cc
+
+pub memory_unfailed : {T : Type 0} → ◌≡◌ {A = Result T JournalFault} (Err NoMemory) (Err Failed) → ⊥
+memory_unfailed e = cc
+
+pub bad_unfailed : {T : Type 0} (result : Result T JournalFault) (at : ℕ) → IsErrOf result (BadSlot at) → IsErrOf result Failed → ⊥
+bad_unfailed result at bad failed = cc
+
 module _ {R : Type 0} (is_here : R → ℕ → Type 0) (reads_of : R → ℕ → ℕ → Option (List ℕ)) (said_of : R → Option (List ℕ)) (clock_of : R → ℕ)
     (images_of : R → ℕ → Image → List ℕ → Type 0) (faults_of : R → ℕ → ℕ) (syncs_of written_of read_of : R → ℕ → Option ℕ) (slot area n : ℕ) where
-  -- calls that only read one area only read the slot
-  pub only_reads : (old new : R) → OnlyReadsArea is_here reads_of said_of clock_of images_of faults_of syncs_of written_of read_of slot area n old new
-      → OnlyReads is_here reads_of said_of clock_of images_of faults_of syncs_of written_of read_of slot n old new
-  only_reads old new only = record {
+  -- calls that sync and read one area sync and read the slot
+  pub syncs_and_reads : (has_failed fails : Type 0) (old new : R) → (has_failed → fails) → SyncsAndReadsArea is_here reads_of said_of clock_of images_of faults_of syncs_of written_of read_of slot area n has_failed old new
+      → SyncsAndReads is_here reads_of said_of clock_of images_of faults_of syncs_of written_of read_of slot n fails old new
+  syncs_and_reads has_failed fails old new leads only = record {
     any_moment = only.any_moment;
     kept = other_slots is_here reads_of said_of faults_of syncs_of written_of read_of slot area old new only.kept;
-    reads = each;
+    reads = λ fine a. each a (only.reads (λ failed. fine (leads failed)));
+    told = known;
     syncs = only.syncs;
     written = only.written;
   }
     where
-      each : (a : ℕ) → reads_of new slot a ≡ reads_of old slot a
-      each a = elim (cases_eq a area) [
-        | inl same ↦ ap (λ x. reads_of new slot x) same ∙ only.reads ∙ ap (λ x. reads_of old slot x) (sym same)
+      each : (a : ℕ) → reads_of new slot area ≡ reads_of old slot area → reads_of new slot a ≡ reads_of old slot a
+      each a here = elim (cases_eq a area) [
+        | inl same ↦ ap (λ x. reads_of new slot x) same ∙ here ∙ ap (λ x. reads_of old slot x) (sym same)
         | inr other ↦ only.kept.reads slot a (inr other)
+      ]
+
+      known : (a : ℕ) → IsSome (reads_of old slot a) ↔ IsSome (reads_of new slot a)
+      known a = elim (cases_eq a area) [
+        | inl same ↦ subst (λ x. IsSome (reads_of old slot x) ↔ IsSome (reads_of new slot x)) (sym same) only.told
+        | inr other ↦ subst (λ (o : Option (List ℕ)). IsSome (reads_of old slot a) ↔ IsSome o) (sym (only.kept.reads slot a (inr other))) ((λ p. p), (λ p. p))
       ]

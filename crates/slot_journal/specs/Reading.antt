@@ -1,5 +1,5 @@
 -- Calls that only read, and the pieces in which a text is read. Source: this project.
-use Rattle.std.specs.Prelude.{◌≡◌, ◌≢◌, ◌↔◌, ◌≤◌, ◌<◌, ◌+◌, ◌-◌, ℕ, List, ◌++◌, length, take, drop, get_or, min, Option, Result, IsErrOf}
+use Rattle.std.specs.Prelude.{◌≡◌, ◌≢◌, ◌↔◌, ◌≤◌, ◌<◌, ◌+◌, ◌-◌, ℕ, List, ◌++◌, length, take, drop, get_or, min, Option, Result, IsSome, IsErrOf}
 use Rattle.rig_disk.specs.Disk.{Image}
 use Rattle.rig_disk.specs.During.{During}
 use Rattle.rig_disk.specs.Faults.{Rose}
@@ -22,23 +22,46 @@ pub record KeepsOtherSlots {R : Type 0} (is_here : R → ℕ → Type 0) (reads_
   pub said : said_of new ≡ said_of old
   pub counts : KeepsCounts faults_of syncs_of written_of read_of slot old new
 
--- what reads give and what a crash may leave is as it was, the other slots too, and there are at most so many syncs
+-- what reads give and what a crash may leave is as it was, the other slots too; nothing is synced and nothing written
 pub record OnlyReads {R : Type 0} (is_here : R → ℕ → Type 0) (reads_of : R → ℕ → ℕ → Option (List ℕ))
     (said_of : R → Option (List ℕ)) (clock_of : R → ℕ) (images_of : R → ℕ → Image → List ℕ → Type 0)
-    (faults_of : R → ℕ → ℕ) (syncs_of written_of read_of : R → ℕ → Option ℕ) (slot sync_count : ℕ) (old new : R) : Type 0 where
+    (faults_of : R → ℕ → ℕ) (syncs_of written_of read_of : R → ℕ → Option ℕ) (slot : ℕ) (old new : R) : Type 0 where
   pub any_moment : During clock_of images_of old new (λ image said. images_of old (clock_of old) image said)
   pub kept : KeepsOtherSlots is_here reads_of said_of faults_of syncs_of written_of read_of slot old new
   pub reads : (area : ℕ) → reads_of new slot area ≡ reads_of old slot area
-  pub syncs : Adds sync_count (syncs_of old slot) (syncs_of new slot)
+  pub syncs : Adds 0 (syncs_of old slot) (syncs_of new slot)
   pub written : Adds 0 (written_of old slot) (written_of new slot)
 
 -- the same of calls on one area of the slot
 pub record OnlyReadsArea {R : Type 0} (is_here : R → ℕ → Type 0) (reads_of : R → ℕ → ℕ → Option (List ℕ))
     (said_of : R → Option (List ℕ)) (clock_of : R → ℕ) (images_of : R → ℕ → Image → List ℕ → Type 0)
-    (faults_of : R → ℕ → ℕ) (syncs_of written_of read_of : R → ℕ → Option ℕ) (slot area sync_count : ℕ) (old new : R) : Type 0 where
+    (faults_of : R → ℕ → ℕ) (syncs_of written_of read_of : R → ℕ → Option ℕ) (slot area : ℕ) (old new : R) : Type 0 where
   pub any_moment : During clock_of images_of old new (λ image said. images_of old (clock_of old) image said)
   pub kept : KeepsOthers is_here reads_of said_of faults_of syncs_of written_of read_of slot area old new
   pub reads : reads_of new slot area ≡ reads_of old slot area
+  pub syncs : Adds 0 (syncs_of old slot) (syncs_of new slot)
+  pub written : Adds 0 (written_of old slot) (written_of new slot)
+
+-- the same with at most so many syncs. What reads give is as it was unless the call failed, for a device may drop bytes at a
+-- failed sync; what a crash may leave is as it was all the same, and whether an area is told
+pub record SyncsAndReads {R : Type 0} (is_here : R → ℕ → Type 0) (reads_of : R → ℕ → ℕ → Option (List ℕ))
+    (said_of : R → Option (List ℕ)) (clock_of : R → ℕ) (images_of : R → ℕ → Image → List ℕ → Type 0)
+    (faults_of : R → ℕ → ℕ) (syncs_of written_of read_of : R → ℕ → Option ℕ) (slot sync_count : ℕ) (has_failed : Type 0) (old new : R) : Type 0 where
+  pub any_moment : During clock_of images_of old new (λ image said. images_of old (clock_of old) image said)
+  pub kept : KeepsOtherSlots is_here reads_of said_of faults_of syncs_of written_of read_of slot old new
+  pub reads : (has_failed → ⊥) → (area : ℕ) → reads_of new slot area ≡ reads_of old slot area
+  pub told : (area : ℕ) → IsSome (reads_of old slot area) ↔ IsSome (reads_of new slot area)
+  pub syncs : Adds sync_count (syncs_of old slot) (syncs_of new slot)
+  pub written : Adds 0 (written_of old slot) (written_of new slot)
+
+-- the same of calls on one area of the slot
+pub record SyncsAndReadsArea {R : Type 0} (is_here : R → ℕ → Type 0) (reads_of : R → ℕ → ℕ → Option (List ℕ))
+    (said_of : R → Option (List ℕ)) (clock_of : R → ℕ) (images_of : R → ℕ → Image → List ℕ → Type 0)
+    (faults_of : R → ℕ → ℕ) (syncs_of written_of read_of : R → ℕ → Option ℕ) (slot area sync_count : ℕ) (has_failed : Type 0) (old new : R) : Type 0 where
+  pub any_moment : During clock_of images_of old new (λ image said. images_of old (clock_of old) image said)
+  pub kept : KeepsOthers is_here reads_of said_of faults_of syncs_of written_of read_of slot area old new
+  pub reads : (has_failed → ⊥) → reads_of new slot area ≡ reads_of old slot area
+  pub told : IsSome (reads_of old slot area) ↔ IsSome (reads_of new slot area)
   pub syncs : Adds sync_count (syncs_of old slot) (syncs_of new slot)
   pub written : Adds 0 (written_of old slot) (written_of new slot)
 

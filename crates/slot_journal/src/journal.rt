@@ -4,7 +4,7 @@ ghost use Rattle.rig_disk.specs.During.{During};
 ghost use Rattle.rig_disk.specs.Frame.{Spends, KeepsOthers};
 ghost use Rattle.slot_journal.specs.InUse.{told_text};
 ghost use Rattle.slot_journal.specs.Limits.{make_syncs, make_bytes, make_reads, load_syncs, commit_syncs, commit_bytes, prefix_len};
-ghost use Rattle.slot_journal.specs.Reading.{HasSlotCause, OnlyReadsArea};
+ghost use Rattle.slot_journal.specs.Reading.{HasSlotCause, SyncsAndReadsArea};
 ghost use Rattle.slot_journal.specs.Text.{IsBadText, max_body};
 ghost use Rattle.slot_journal.specs.Writing.{first_text, next_gate};
 
@@ -96,8 +96,8 @@ impl Journal {
             → told_text slot (R.reads rig.old slot) ≡ Some text → HaveInUse (R.images rig.new (R.clock rig.new)) slot text }
         ensures spent { IsErrOf result Spent → ⊥ }
         ensures only_if_fault { HasSlotCause (R.faults rig.old slot) (R.faults rig.new slot) result }
-        ensures kept { OnlyReadsArea R.is_here R.reads R.said R.clock R.images R.faults R.syncs R.bytes_written R.bytes_read
-            slot 0 load_syncs rig.old rig.new }
+        ensures kept { SyncsAndReadsArea R.is_here R.reads R.said R.clock R.images R.faults R.syncs R.bytes_written R.bytes_read
+            slot 0 load_syncs (IsErrOf result SlotFailed) rig.old rig.new }
     {
         let (gate, bodies) = read_text(alloc, rig, slot, head)?;
         let journal = Journal {

@@ -3,8 +3,8 @@ ghost use Rattle.std.specs.Prelude.{◌≡◌, ◌≤◌, ℕ, List, Some, IfOk,
 ghost use Rattle.rig_disk.specs.During.{Only};
 ghost use Rattle.slot_journal.specs.InUse.{told_text};
 ghost use Rattle.slot_journal.specs.Text.{IsText, IsBadText};
-ghost use Rattle.slot_journal.specs.Reading.{HasSlotCause, OnlyReadsArea};
-ghost use Rattle.slot_journal.specs.declared.fault.JournalFault.TheVariants.{BadSlot, Spent};
+ghost use Rattle.slot_journal.specs.Reading.{HasSlotCause, SyncsAndReadsArea};
+ghost use Rattle.slot_journal.specs.declared.fault.JournalFault.TheVariants.{Failed as SlotFailed, BadSlot, Spent};
 
 use crate::check::bad_header;
 use crate::piece::{first_piece, sync_and_measure};
@@ -32,8 +32,8 @@ pub fn read_text<R: Rig>(
     ensures bad_durable { (at : ℕ) → IsErrOf result (BadSlot at) → (there : List ℕ) → R.reads rig.new slot 0 ≡ Some there
         → Only R.clock R.images rig.new slot 0 there }
     ensures cause { HasSlotCause (R.faults rig.old slot) (R.faults rig.new slot) result }
-    ensures kept { OnlyReadsArea R.is_here R.reads R.said R.clock R.images R.faults R.syncs R.bytes_written R.bytes_read
-        slot 0 1 rig.old rig.new }
+    ensures kept { SyncsAndReadsArea R.is_here R.reads R.said R.clock R.images R.faults R.syncs R.bytes_written R.bytes_read
+        slot 0 1 (IsErrOf result SlotFailed) rig.old rig.new }
 {
     let len = sync_and_measure(rig, slot)?;
     let mut piece = first_piece(alloc, rig, slot, len)?;

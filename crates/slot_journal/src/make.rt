@@ -25,7 +25,7 @@ fn is_shut<R: Rig>(rig: &mut R, slot: u8) -> Result<bool, Failed>
     ensures cause { HasCause (R.faults rig.old slot) (R.faults rig.new slot) result }
     ensures counts { Spends R.syncs R.bytes_written R.bytes_read slot 0 0 1 rig.old rig.new }
     ensures kept { OnlyReadsArea R.is_here R.reads R.said R.clock R.images R.faults R.syncs R.bytes_written R.bytes_read
-        slot 0 0 rig.old rig.new }
+        slot 0 rig.old rig.new }
 {
     let len = rig.length(slot, AREA)?;
     if len == 0 {

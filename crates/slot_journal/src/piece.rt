@@ -1,9 +1,9 @@
 //! The pieces in which a text is read: large ones, so that small records share a read.
-ghost use Rattle.std.specs.Prelude.{◌≡◌, ◌≤◌, ◌<◌, ◌⊎◌, ◌+◌, ◌-◌, ℕ, List, length, take, drop, min, Some, IfOk, IfErr, OnOk};
+ghost use Rattle.std.specs.Prelude.{◌≡◌, ◌≤◌, ◌<◌, ◌⊎◌, ◌+◌, ◌-◌, ℕ, List, length, take, drop, min, Some, IfOk, IfErr, IsErr, OnOk};
 ghost use Rattle.rig_disk.specs.Faults.{HasCause};
 ghost use Rattle.rig_disk.specs.During.{Only};
 ghost use Rattle.slot_journal.specs.declared.fault.JournalFault.TheVariants.{Failed as SlotFailed, NoMemory as OutOfMemory};
-ghost use Rattle.slot_journal.specs.Reading.{HasSlotCause, OnlyReadsArea, IsPiece, ShowsPrefix};
+ghost use Rattle.slot_journal.specs.Reading.{HasSlotCause, OnlyReadsArea, SyncsAndReadsArea, IsPiece, ShowsPrefix};
 
 use crate::JournalFault;
 use crate::limits::{AREA, PIECE_LEN, PREFIX_LEN};
@@ -26,8 +26,8 @@ pub fn sync_and_measure<R: Rig>(rig: &mut R, slot: u8) -> Result<u64, Failed>
     ensures durable { OnOk result ((there : List ℕ) → R.reads rig.new slot 0 ≡ Some there
         → Only R.clock R.images rig.new slot 0 there) }
     ensures cause { HasCause (R.faults rig.old slot) (R.faults rig.new slot) result }
-    ensures kept { OnlyReadsArea R.is_here R.reads R.said R.clock R.images R.faults R.syncs R.bytes_written R.bytes_read
-        slot 0 1 rig.old rig.new }
+    ensures kept { SyncsAndReadsArea R.is_here R.reads R.said R.clock R.images R.faults R.syncs R.bytes_written R.bytes_read
+        slot 0 1 (IsErr result) rig.old rig.new }
 {
     rig.sync(slot, AREA)?;
     let len = rig.length(slot, AREA)?;
@@ -52,7 +52,7 @@ pub fn read_piece<R: Rig>(
     ensures plain { IfErr result (λ fault. (fault ≡ SlotFailed) ⊎ (fault ≡ OutOfMemory)) }
     ensures cause { HasSlotCause (R.faults rig.old slot) (R.faults rig.new slot) result }
     ensures kept { OnlyReadsArea R.is_here R.reads R.said R.clock R.images R.faults R.syncs R.bytes_written R.bytes_read
-        slot 0 0 rig.old rig.new }
+        slot 0 rig.old rig.new }
 {
     piece.bytes.resize(count, 0)?;
     let n = rig.read_at(slot, AREA, start, &mut piece.bytes)?;
@@ -79,7 +79,7 @@ pub fn first_piece<R: Rig>(
     ensures plain { IfErr result (λ fault. (fault ≡ SlotFailed) ⊎ (fault ≡ OutOfMemory)) }
     ensures cause { HasSlotCause (R.faults rig.old slot) (R.faults rig.new slot) result }
     ensures kept { OnlyReadsArea R.is_here R.reads R.said R.clock R.images R.faults R.syncs R.bytes_written R.bytes_read
-        slot 0 0 rig.old rig.new }
+        slot 0 rig.old rig.new }
 {
     let count = u64::min(len, PIECE_LEN as u64) as usize;
     let mut piece = Piece {
@@ -127,7 +127,7 @@ pub fn refill<R: Rig>(
     ensures plain { IfErr result (λ fault. (fault ≡ SlotFailed) ⊎ (fault ≡ OutOfMemory)) }
     ensures cause { HasSlotCause (R.faults rig.old slot) (R.faults rig.new slot) result }
     ensures kept { OnlyReadsArea R.is_here R.reads R.said R.clock R.images R.faults R.syncs R.bytes_written R.bytes_read
-        slot 0 0 rig.old rig.new }
+        slot 0 rig.old rig.new }
 {
     if ahead(piece, at).len() >= PREFIX_LEN {
         return Ok(());

@@ -44,7 +44,7 @@ fn fill_behind<R: Rig>(
         → body.new ≡ take known body.old ++ take (length body.old - known) (drop (at + known) there)) }
     ensures cause { HasCause (R.faults rig.old slot) (R.faults rig.new slot) result }
     ensures kept { OnlyReadsArea R.is_here R.reads R.said R.clock R.images R.faults R.syncs R.bytes_written R.bytes_read
-        slot 0 0 rig.old rig.new }
+        slot 0 rig.old rig.new }
 {
     let n = rig.read_at(slot, AREA, at + known as u64, &mut body[known..])?;
     Ok(n)
@@ -72,7 +72,7 @@ fn read_body<R: Rig>(
     ensures spent { IsErrOf result Spent → ⊥ }
     ensures cause { HasSlotCause (R.faults rig.old slot) (R.faults rig.new slot) result }
     ensures kept { OnlyReadsArea R.is_here R.reads R.said R.clock R.images R.faults R.syncs R.bytes_written R.bytes_read
-        slot 0 0 rig.old rig.new }
+        slot 0 rig.old rig.new }
 {
     if known.len() >= len {
         return Ok(Bytes::from_slice(alloc, &known[..len])?);
@@ -114,7 +114,7 @@ pub fn next_record<R: Rig>(
     ensures spent { IsErrOf result Spent → ⊥ }
     ensures cause { HasSlotCause (R.faults rig.old slot) (R.faults rig.new slot) result }
     ensures kept { OnlyReadsArea R.is_here R.reads R.said R.clock R.images R.faults R.syncs R.bytes_written R.bytes_read
-        slot 0 0 rig.old rig.new }
+        slot 0 rig.old rig.new }
 {
     refill(rig, slot, len, at, piece)?;
     let known = ahead(piece, at);

@@ -32,7 +32,7 @@ pub fn read_records<R: Rig>(
     ensures spent { IsErrOf result Spent → ⊥ }
     ensures cause { HasSlotCause (R.faults rig.old slot) (R.faults rig.new slot) result }
     ensures kept { OnlyReadsArea R.is_here R.reads R.said R.clock R.images R.faults R.syncs R.bytes_written R.bytes_read
-        slot 0 0 rig.old rig.new }
+        slot 0 rig.old rig.new }
 {
     let mut bodies = Vec::new(alloc);
     let mut at = HEADER_LEN as u64;

@@ -5,6 +5,7 @@ use Rattle.slot_journal.specs.InUse.{open_text}
 use Rattle.slot_journal.specs.Reading.{IsPiece}
 use Rattle.slot_journal.specs.Text.{IsText, IsBadText}
 use Rattle.slot_journal.specs.declared.fault.JournalFault.TheVariants.{BadSlot}
+use Rattle.slot_journal.proofs.CallerLemmas.{ok_not_err}
 use Rattle.slot_journal.proofs.HeaderLemmas.{fits_there, bad_there, bad_open, text_read, text_breaks}
 use Rattle.slot_journal.proofs.load.read_text.Goals as goal
 
@@ -22,7 +23,7 @@ returns-in-Some-clause-bad_slot g c at is text told =
     let same : c.in-Some.at ≡ at = cc in
     let was = was_told (g.R.Rig.reads c.args.rig.now c.args.slot 0) open_text text told in
     let there = was.there in
-    let told_sync = c.sync_and_measure.ensures.kept.reads ∙ was.told in
+    let told_sync = c.in_ok-len.ensures.kept.reads ok_not_err ∙ was.told in
     let len : c.in_ok-len.len ≡ length there = c.in_ok-len.ensures.value there was.told in
     let front = c.deref.result.now in
     let piece = subst (λ (l : List ℕ). IsPiece there 0 l) (sym c.deref.ensures.value) (c.in_ok-piece.ensures.is_piece there told_sync) in
@@ -38,7 +39,7 @@ returns-in_err-read-in-None-clause-bad_slot g c at is text told =
     let failed : IsErrOf c.read_records.result (BadSlot at) = search rules in
     let was = was_told (g.R.Rig.reads c.args.rig.now c.args.slot 0) open_text text told in
     let there = was.there in
-    let told_sync = c.sync_and_measure.ensures.kept.reads ∙ was.told in
+    let told_sync = c.in_ok-len.ensures.kept.reads ok_not_err ∙ was.told in
     let len : c.in_ok-len.len ≡ length there = c.in_ok-len.ensures.value there was.told in
     let front = c.deref.result.now in
     let piece = subst (λ (l : List ℕ). IsPiece there 0 l) (sym c.deref.ensures.value) (c.in_ok-piece.ensures.is_piece there told_sync) in
@@ -53,7 +54,7 @@ returns-clause-value g c text told =
     let read = c.in_ok-read-in-None.read in
     let was = was_told (g.R.Rig.reads c.args.rig.now c.args.slot 0) open_text text told in
     let there = was.there in
-    let told_sync = c.sync_and_measure.ensures.kept.reads ∙ was.told in
+    let told_sync = c.in_ok-len.ensures.kept.reads ok_not_err ∙ was.told in
     let len : c.in_ok-len.len ≡ length there = c.in_ok-len.ensures.value there was.told in
     let front = c.deref.result.now in
     let piece = subst (λ (l : List ℕ). IsPiece there 0 l) (sym c.deref.ensures.value) (c.in_ok-piece.ensures.is_piece there told_sync) in

@@ -97,7 +97,7 @@ returns-in_err-write_at-clause-any_moment g c =
     let third = stays_on clock images rig c.write_behind.new.rig c.sync.new.self slot 0 Shut second c.sync.ensures.any_moment in
     let long : length head ≡ 23 = omega arith in
     let now = λ (was : Was). (shut was).gate ∷ behind_first head body long in
-    let told = λ (was : Was). c.sync.ensures.reads ∙ c.in_ok-write_behind.ensures.written
+    let told = λ (was : Was). c.in_ok-sync.ensures.reads ∙ c.in_ok-write_behind.ensures.written
     ∙ ap (λ o. on_told (written 25 (behind_gate body)) (on_told (written 1 (head ++ open_gate ∷ [])) o)) (c.in_ok-cut.ensures.cut ∙ ap (on_told (take 1)) was.told_there)
     ∙ ap (λ (l : List ℕ). Some l) (built head body long was.there (shut was)) in
     let fourth = then_known clock images slot 0 now rig c.sync.new.self c.write_at.new.self (Torn 0 1) Q (step_weaker clock images slot 0 rig c.sync.new.self Shut Either (λ a b s was. inl (inr (s was))) third)
@@ -125,7 +125,7 @@ returns-in_err-sync-2-clause-any_moment g c =
     let third = stays_on clock images rig c.write_behind.new.rig c.sync.new.self slot 0 Shut second c.sync.ensures.any_moment in
     let long : length head ≡ 23 = omega arith in
     let now = λ (was : Was). (shut was).gate ∷ behind_first head body long in
-    let told = λ (was : Was). c.sync.ensures.reads ∙ c.in_ok-write_behind.ensures.written
+    let told = λ (was : Was). c.in_ok-sync.ensures.reads ∙ c.in_ok-write_behind.ensures.written
     ∙ ap (λ o. on_told (written 25 (behind_gate body)) (on_told (written 1 (head ++ open_gate ∷ [])) o)) (c.in_ok-cut.ensures.cut ∙ ap (on_told (take 1)) was.told_there)
     ∙ ap (λ (l : List ℕ). Some l) (built head body long was.there (shut was)) in
     let fourth = then_known clock images slot 0 now rig c.sync.new.self c.write_at.new.self (Torn 0 1) Q (step_weaker clock images slot 0 rig c.sync.new.self Shut Either (λ a b s was. inl (inr (s was))) third)
@@ -153,7 +153,7 @@ returns-clause-any_moment g c =
     let third = stays_on clock images rig c.write_behind.new.rig c.sync.new.self slot 0 Shut second c.sync.ensures.any_moment in
     let long : length head ≡ 23 = omega arith in
     let now = λ (was : Was). (shut was).gate ∷ behind_first head body long in
-    let told = λ (was : Was). c.sync.ensures.reads ∙ c.in_ok-write_behind.ensures.written
+    let told = λ (was : Was). c.in_ok-sync.ensures.reads ∙ c.in_ok-write_behind.ensures.written
     ∙ ap (λ o. on_told (written 25 (behind_gate body)) (on_told (written 1 (head ++ open_gate ∷ [])) o)) (c.in_ok-cut.ensures.cut ∙ ap (on_told (take 1)) was.told_there)
     ∙ ap (λ (l : List ℕ). Some l) (built head body long was.there (shut was)) in
     let fourth = then_known clock images slot 0 now rig c.sync.new.self c.write_at.new.self (Torn 0 1) Q (step_weaker clock images slot 0 rig c.sync.new.self Shut Either (λ a b s was. inl (inr (s was))) third)
@@ -166,8 +166,8 @@ returns-clause-done g c was =
     let body = c.args.body.now in
     let long : length head ≡ 23 = omega arith in
     let shut = (c.requires.shut was.there was.told_there).0 in
-    let told = c.sync.ensures.reads ∙ c.in_ok-write_behind.ensures.written
+    let told = c.in_ok-sync.ensures.reads ∙ c.in_ok-write_behind.ensures.written
     ∙ ap (λ o. on_told (written 25 (behind_gate body)) (on_told (written 1 (head ++ open_gate ∷ [])) o)) (c.in_ok-cut.ensures.cut ∙ ap (on_told (take 1)) was.told_there)
     ∙ ap (λ (l : List ℕ). Some l) (built head body long was.there shut) in
-    let last = c.sync-2.ensures.reads ∙ c.in_ok-write_at.ensures.written ∙ ap (on_told (written 0 (open_gate ∷ []))) told in
+    let last = c.in_ok-sync-2.ensures.reads ∙ c.in_ok-write_at.ensures.written ∙ ap (on_told (written 0 (open_gate ∷ []))) told in
     (last, c.in_ok-sync-2.ensures.durable (first_text head body) last)

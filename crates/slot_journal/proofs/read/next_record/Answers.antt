@@ -10,12 +10,12 @@ use Rattle.slot_journal.proofs.read.next_record.Goals as goal
 
 pub returns-in_err-body-in-Some-clause-kept : goal.returns-in_err-body-in-Some-clause-kept
 returns-in_err-body-in-Some-clause-kept g c =
-    OnlyReads-more g.R.Rig.is_here g.R.Rig.reads g.R.Rig.said g.R.Rig.clock g.R.Rig.images g.R.Rig.faults g.R.Rig.syncs g.R.Rig.bytes_written g.R.Rig.bytes_read c.args.slot 0 0 0
+    OnlyReads-more g.R.Rig.is_here g.R.Rig.reads g.R.Rig.said g.R.Rig.clock g.R.Rig.images g.R.Rig.faults g.R.Rig.syncs g.R.Rig.bytes_written g.R.Rig.bytes_read c.args.slot 0
     c.args.rig.now c.refill.new.rig c.read_body.new.rig c.refill.ensures.kept c.read_body.ensures.kept
 
 pub returns-in_ok-body-in-Some-clause-kept : goal.returns-in_ok-body-in-Some-clause-kept
 returns-in_ok-body-in-Some-clause-kept g c =
-    OnlyReads-more g.R.Rig.is_here g.R.Rig.reads g.R.Rig.said g.R.Rig.clock g.R.Rig.images g.R.Rig.faults g.R.Rig.syncs g.R.Rig.bytes_written g.R.Rig.bytes_read c.args.slot 0 0 0
+    OnlyReads-more g.R.Rig.is_here g.R.Rig.reads g.R.Rig.said g.R.Rig.clock g.R.Rig.images g.R.Rig.faults g.R.Rig.syncs g.R.Rig.bytes_written g.R.Rig.bytes_read c.args.slot 0
     c.args.rig.now c.refill.new.rig c.read_body.new.rig c.refill.ensures.kept c.read_body.ensures.kept
 
 pub returns-in_ok-body-in-Some-clause-some : goal.returns-in_ok-body-in-Some-clause-some

@@ -50,7 +50,7 @@ loop-at-preserved g c =
       within = omega (arith, within, size);
       here = search rules;
       quiet = search rules;
-      kept = OnlyReads-more g.R.Rig.is_here g.R.Rig.reads g.R.Rig.said g.R.Rig.clock g.R.Rig.images g.R.Rig.faults g.R.Rig.syncs g.R.Rig.bytes_written g.R.Rig.bytes_read c.args.slot 0 0 0
+      kept = OnlyReads-more g.R.Rig.is_here g.R.Rig.reads g.R.Rig.said g.R.Rig.clock g.R.Rig.images g.R.Rig.faults g.R.Rig.syncs g.R.Rig.bytes_written g.R.Rig.bytes_read c.args.slot 0
           c.args.rig.now c.loop-at.rig c.next_record.new.rig c.loop-at.invariant.kept c.next_record.ensures.kept;
       len = c.requires.len;
       is_piece = λ there told. c.in_ok-next_record.ensures.is_piece there (c.loop-at.invariant.kept.reads ∙ told);

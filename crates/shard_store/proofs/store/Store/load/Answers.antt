@@ -1,9 +1,11 @@
-use Rattle.std.proofs.Common.{rules, ◌∙◌, inl, inr, sym, ap, subst}
+use Rattle.std.proofs.Common.{rules, ℕ, Result, Err, ◌≡◌, ◌∙◌, inl, inr, refl, sym, ap, subst}
 use Rattle.shard_model.specs.Objects.{Geometry}
-use Rattle.slot_journal.proofs.CallerLemmas.{only_reads}
+use Rattle.slot_journal.proofs.CallerLemmas.{syncs_and_reads, ok_unfailed}
 use Rattle.slot_journal.specs.Text.{IsBadText}
 use Rattle.slot_journal.specs.InUse.{text_in_use}
 use Rattle.slot_journal.specs.Journal.{slot_of, gate_of, Holds}
+use Rattle.slot_journal.specs.declared.fault.JournalFault.{JournalFault}
+use Rattle.slot_journal.specs.declared.fault.JournalFault.TheVariants.{Failed, BadSlot, NoMemory}
 use Rattle.shard_store.specs.Stories.{shard_head, IsBadAmong}
 use Rattle.shard_store.proofs.MakeLemmas.{loaded, bad_story}
 use Rattle.shard_store.proofs.store.Store.load.Goals as goal
@@ -38,17 +40,23 @@ pub returns-in-Err-BadSlot-clause-bad_durable : goal.returns-in-Err-BadSlot-clau
 returns-in-Err-BadSlot-clause-bad_durable g c at e text told =
     c.in-Err-BadSlot.ensures.bad_durable at (search rules) text told
 
+is_bad : {T : Type 0} (fault : JournalFault) (at : ℕ) → fault ≡ BadSlot at → ◌≡◌ {A = Result T JournalFault} (Err fault) (Err Failed) → ⊥
+is_bad fault at is failed = cc
+
+is_memory : {T : Type 0} (fault : JournalFault) → fault ≡ NoMemory → ◌≡◌ {A = Result T JournalFault} (Err fault) (Err Failed) → ⊥
+is_memory fault is failed = cc
+
 pub returns-in_ok-state-in-Ok-clause-kept : goal.returns-in_ok-state-in-Ok-clause-kept
-returns-in_ok-state-in-Ok-clause-kept g c = only_reads g.R.Rig.is_here g.R.Rig.reads g.R.Rig.said g.R.Rig.clock g.R.Rig.images g.R.Rig.faults g.R.Rig.syncs g.R.Rig.bytes_written g.R.Rig.bytes_read c.args.slot 0 1 c.args.rig.now c.load.new.rig c.load.ensures.kept
+returns-in_ok-state-in-Ok-clause-kept g c = syncs_and_reads g.R.Rig.is_here g.R.Rig.reads g.R.Rig.said g.R.Rig.clock g.R.Rig.images g.R.Rig.faults g.R.Rig.syncs g.R.Rig.bytes_written g.R.Rig.bytes_read c.args.slot 0 1 _ _ c.args.rig.now c.load.new.rig (λ failed. absurd (ok_unfailed _ failed)) c.in-Ok.ensures.kept
 
 pub returns-in_err-state-in-Ok-clause-kept : goal.returns-in_err-state-in-Ok-clause-kept
-returns-in_err-state-in-Ok-clause-kept g c = only_reads g.R.Rig.is_here g.R.Rig.reads g.R.Rig.said g.R.Rig.clock g.R.Rig.images g.R.Rig.faults g.R.Rig.syncs g.R.Rig.bytes_written g.R.Rig.bytes_read c.args.slot 0 1 c.args.rig.now c.load.new.rig c.load.ensures.kept
+returns-in_err-state-in-Ok-clause-kept g c = syncs_and_reads g.R.Rig.is_here g.R.Rig.reads g.R.Rig.said g.R.Rig.clock g.R.Rig.images g.R.Rig.faults g.R.Rig.syncs g.R.Rig.bytes_written g.R.Rig.bytes_read c.args.slot 0 1 _ _ c.args.rig.now c.load.new.rig (λ failed. absurd (ok_unfailed _ failed)) c.in-Ok.ensures.kept
 
 pub returns-in-Err-BadSlot-clause-kept : goal.returns-in-Err-BadSlot-clause-kept
-returns-in-Err-BadSlot-clause-kept g c = only_reads g.R.Rig.is_here g.R.Rig.reads g.R.Rig.said g.R.Rig.clock g.R.Rig.images g.R.Rig.faults g.R.Rig.syncs g.R.Rig.bytes_written g.R.Rig.bytes_read c.args.slot 0 1 c.args.rig.now c.load.new.rig c.load.ensures.kept
-
-pub returns-in-Err-Failed-clause-kept : goal.returns-in-Err-Failed-clause-kept
-returns-in-Err-Failed-clause-kept g c = only_reads g.R.Rig.is_here g.R.Rig.reads g.R.Rig.said g.R.Rig.clock g.R.Rig.images g.R.Rig.faults g.R.Rig.syncs g.R.Rig.bytes_written g.R.Rig.bytes_read c.args.slot 0 1 c.args.rig.now c.load.new.rig c.load.ensures.kept
+returns-in-Err-BadSlot-clause-kept g c = syncs_and_reads g.R.Rig.is_here g.R.Rig.reads g.R.Rig.said g.R.Rig.clock g.R.Rig.images g.R.Rig.faults g.R.Rig.syncs g.R.Rig.bytes_written g.R.Rig.bytes_read c.args.slot 0 1 _ _ c.args.rig.now c.load.new.rig (λ failed. absurd (is_bad _ _ c.in-Err-BadSlot.field-0-is failed)) c.in-Err-BadSlot.ensures.kept
 
 pub returns-in-Err-NoMemory-clause-kept : goal.returns-in-Err-NoMemory-clause-kept
-returns-in-Err-NoMemory-clause-kept g c = only_reads g.R.Rig.is_here g.R.Rig.reads g.R.Rig.said g.R.Rig.clock g.R.Rig.images g.R.Rig.faults g.R.Rig.syncs g.R.Rig.bytes_written g.R.Rig.bytes_read c.args.slot 0 1 c.args.rig.now c.load.new.rig c.load.ensures.kept
+returns-in-Err-NoMemory-clause-kept g c = syncs_and_reads g.R.Rig.is_here g.R.Rig.reads g.R.Rig.said g.R.Rig.clock g.R.Rig.images g.R.Rig.faults g.R.Rig.syncs g.R.Rig.bytes_written g.R.Rig.bytes_read c.args.slot 0 1 _ _ c.args.rig.now c.load.new.rig (λ failed. absurd (is_memory _ c.in-Err-NoMemory.field-0-is failed)) c.in-Err-NoMemory.ensures.kept
+
+pub returns-in-Err-Failed-clause-kept : goal.returns-in-Err-Failed-clause-kept
+returns-in-Err-Failed-clause-kept g c = syncs_and_reads g.R.Rig.is_here g.R.Rig.reads g.R.Rig.said g.R.Rig.clock g.R.Rig.images g.R.Rig.faults g.R.Rig.syncs g.R.Rig.bytes_written g.R.Rig.bytes_read c.args.slot 0 1 _ _ c.args.rig.now c.load.new.rig (λ failed. refl) c.in-Err-Failed.ensures.kept

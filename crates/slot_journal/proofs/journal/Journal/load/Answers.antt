@@ -3,12 +3,13 @@ use Rattle.rig_disk.specs.Disk.{on_told}
 use Rattle.rig_disk.proofs.Areas.{was_told}
 use Rattle.slot_journal.specs.InUse.{open_text, first_told}
 use Rattle.slot_journal.specs.declared.fault.JournalFault.TheVariants.{BadSlot}
+use Rattle.slot_journal.proofs.CallerLemmas.{ok_unfailed, bad_unfailed}
 use Rattle.slot_journal.proofs.journal.Journal.load.Goals as goal
 
 pub returns-clause-ok : goal.returns-clause-ok
 returns-clause-ok g c text told =
     let was = was_told (g.R.Rig.reads c.args.rig.now c.args.slot 0) open_text text told in
-    let told_then = c.read_text.ensures.kept.reads ∙ was.told in
+    let told_then = c.in_ok-gate.ensures.kept.reads (ok_unfailed _) ∙ was.told in
     record {
       told = ap (on_told open_text) told_then ∙ ap (λ (l : List ℕ). Some l) (sym was.changed);
       told_in = ap first_told told_then;
@@ -19,7 +20,7 @@ returns-clause-ok g c text told =
 
 pub returns-clause-settled : goal.returns-clause-settled
 returns-clause-settled g c text told =
-    let before = ap (on_told open_text) (sym c.read_text.ensures.kept.reads) ∙ told in
+    let before = ap (on_told open_text) (sym (c.in_ok-gate.ensures.kept.reads (ok_unfailed _))) ∙ told in
     record {
       head = c.args.head.now;
       bodies = c.in_ok-gate.bodies;
@@ -29,6 +30,6 @@ returns-clause-settled g c text told =
 pub returns-in_err-gate-clause-bad_durable : goal.returns-in_err-gate-clause-bad_durable
 returns-in_err-gate-clause-bad_durable g c at is text told image said now =
     let was = was_told (g.R.Rig.reads c.args.rig.now c.args.slot 0) open_text text told in
-    let told_then = c.read_text.ensures.kept.reads ∙ was.told in
     let bad : IsErrOf c.read_text.result (BadSlot at) = search rules in
+    let told_then = c.read_text.ensures.kept.reads (bad_unfailed c.read_text.result at bad) ∙ was.told in
     ap open_text (c.read_text.ensures.bad_durable at bad was.there told_then image said now) ∙ sym was.changed
