@@ -1,9 +1,9 @@
 //! The first bytes of the map's text.
-ghost use Rattle.std.specs.Prelude.{◌≡◌, ◌≢◌, ◌≤◌, ◌<◌, ◌⊎◌, ℕ, List, length, take, get_or, Some, IfOk, OnOk, IsTrue, false};
+ghost use Rattle.std.specs.Prelude.{◌≡◌, ◌≢◌, ◌≤◌, ◌<◌, ◌⊎◌, ℕ, List, length, take, get_or, Some, IfOk, OnOk, IsErr, IsTrue, false};
 ghost use Rattle.rig_disk.specs.During.{Only};
 ghost use Rattle.rig_disk.specs.Faults.{HasCause};
 ghost use Rattle.slot_journal.specs.Header.{open_gate};
-ghost use Rattle.slot_journal.specs.Reading.{OnlyReadsArea};
+ghost use Rattle.slot_journal.specs.Reading.{SyncsAndReadsArea};
 ghost use Rattle.pool_map.specs.Maps.{HasNoText};
 
 use crate::limits::{AREA, MAP_SLOT};
@@ -19,8 +19,8 @@ pub(crate) fn read_front<R: Rig>(rig: &mut R, front: &mut [u8; 24]) -> Result<bo
     ensures none { IfOk result (λ is. is ≡ false → (there : List ℕ) → R.reads rig.old 16 0 ≡ Some there → HasNoText there) }
     ensures durable { OnOk result ((there : List ℕ) → R.reads rig.new 16 0 ≡ Some there → Only R.clock R.images rig.new 16 0 there) }
     ensures cause { HasCause (R.faults rig.old 16) (R.faults rig.new 16) result }
-    ensures kept { OnlyReadsArea R.is_here R.reads R.said R.clock R.images R.faults R.syncs R.bytes_written R.bytes_read
-        16 0 1 rig.old rig.new }
+    ensures kept { SyncsAndReadsArea R.is_here R.reads R.said R.clock R.images R.faults R.syncs R.bytes_written R.bytes_read
+        16 0 1 (IsErr result) rig.old rig.new }
 {
     rig.sync(MAP_SLOT, AREA)?;
     let len = rig.length(MAP_SLOT, AREA)?;

@@ -5,7 +5,7 @@ ghost use Rattle.ec_code.specs.Refusals.{IsCodeOf};
 ghost use Rattle.rig_disk.specs.During.{Only};
 ghost use Rattle.slot_journal.specs.InUse.{told_text};
 ghost use Rattle.slot_journal.specs.Journal.{IsSettledWhereTold, HaveInUse, is_spent};
-ghost use Rattle.slot_journal.specs.Reading.{OnlyReadsArea};
+ghost use Rattle.slot_journal.specs.Reading.{SyncsAndReadsArea};
 ghost use Rattle.pool_map.specs.Faults.{HasMapCause};
 ghost use Rattle.pool_map.specs.Maps.{PoolImage, IsNoPool, IsMapText};
 ghost use Rattle.pool_map.specs.Pool.{journal_of, map_of, HoldsMap};
@@ -58,8 +58,8 @@ impl PoolMap {
         ensures boxes { length codes.new ≡ length codes.old }
         ensures names { (j : ℕ) (d : _) → plugin_name (slice_index_or codes.new j d) ≡ plugin_name (slice_index_or codes.old j d) }
         ensures only_if_fault { HasMapCause (R.faults rig.old 16) (R.faults rig.new 16) result }
-        ensures kept { OnlyReadsArea R.is_here R.reads R.said R.clock R.images R.faults R.syncs R.bytes_written R.bytes_read
-            16 0 2 rig.old rig.new }
+        ensures kept { SyncsAndReadsArea R.is_here R.reads R.said R.clock R.images R.faults R.syncs R.bytes_written R.bytes_read
+            16 0 2 (result ≡ Err MapFault.Failed) rig.old rig.new }
     {
         texts_have_one_reading();
         if !rig.here(MAP_SLOT) {
@@ -94,8 +94,8 @@ impl PoolMap {
             → Only R.clock R.images rig.new 16 0 there) }
         ensures faults { IfErr result (λ fault. fault ≡ MapFault.Failed) }
         ensures only_if_fault { HasMapCause (R.faults rig.old 16) (R.faults rig.new 16) result }
-        ensures kept { OnlyReadsArea R.is_here R.reads R.said R.clock R.images R.faults R.syncs R.bytes_written R.bytes_read
-            16 0 1 rig.old rig.new }
+        ensures kept { SyncsAndReadsArea R.is_here R.reads R.said R.clock R.images R.faults R.syncs R.bytes_written R.bytes_read
+            16 0 1 (result ≡ Err MapFault.Failed) rig.old rig.new }
     {
         if !rig.here(MAP_SLOT) {
             return Ok(false);

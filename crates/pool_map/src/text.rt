@@ -5,7 +5,7 @@ ghost use Rattle.ec_words.specs.Readers.{IsWord};
 ghost use Rattle.slot_journal.specs.Header.{open_gate};
 ghost use Rattle.slot_journal.specs.InUse.{told_text};
 ghost use Rattle.slot_journal.specs.Journal.{Holds, IsSettledWhereTold, IsFresh, HaveInUse};
-ghost use Rattle.slot_journal.specs.Reading.{OnlyReadsArea};
+ghost use Rattle.slot_journal.specs.Reading.{SyncsAndReadsArea};
 ghost use Rattle.slot_journal.specs.Text.{IsText};
 ghost use Rattle.pool_map.specs.Faults.{HasMapCause};
 ghost use Rattle.pool_map.specs.Maps.{map_head, IsNoPool};
@@ -83,8 +83,8 @@ pub(crate) fn load_text<R: Rig>(alloc: Global, rig: &mut R) -> Result<MapText, M
     ensures no_memory { result ≡ Err MapFault.NoMemory → (text : List ℕ) → told_text 16 (R.reads rig.old 16) ≡ Some text → 24 ≤ length text }
     ensures plain { IfErr result (λ fault. (fault ≡ MapFault.Worn) → ⊥) }
     ensures only_if_fault { HasMapCause (R.faults rig.old 16) (R.faults rig.new 16) result }
-    ensures kept { OnlyReadsArea R.is_here R.reads R.said R.clock R.images R.faults R.syncs R.bytes_written R.bytes_read
-        16 0 2 rig.old rig.new }
+    ensures kept { SyncsAndReadsArea R.is_here R.reads R.said R.clock R.images R.faults R.syncs R.bytes_written R.bytes_read
+        16 0 2 (result ≡ Err MapFault.Failed) rig.old rig.new }
 {
     bad_texts_have_one_place();
     let mut front = [0; HEADER_LEN];

@@ -2,6 +2,7 @@ use Rattle.std.proofs.Common.{rules, ap, subst, ◌∙◌}
 use Rattle.rig_disk.specs.Disk.{on_told}
 use Rattle.slot_journal.specs.InUse.{open_text}
 use Rattle.slot_journal.specs.Journal.{Holds}
+use Rattle.slot_journal.proofs.CallerLemmas.{ok_not_err}
 use Rattle.pool_map.proofs.TextLemmas.{open_told, text_front, bad_slot_of, no_text}
 use Rattle.pool_map.proofs.text.load_text.Goals as goal
 
@@ -12,14 +13,14 @@ returns-in_err-journal-clause-bad g c = λ e text told.
       saw.0,
       λ k n unit bodies place word is.
           no_text c.map_head-head.result text k n unit c.numbers_of-numbers.result.k c.numbers_of-numbers.result.n c.numbers_of-numbers.result.unit at.0 bodies place
-          c.bad_texts_have_one_place.ensures (c.load.ensures.bad_slot at.0 at.1 text (ap (on_told open_text) c.read_front.ensures.kept.reads ∙ told)) c.map_head-head.ensures
+          c.bad_texts_have_one_place.ensures (c.load.ensures.bad_slot at.0 at.1 text (ap (on_told open_text) (c.in_ok-read_front.ensures.kept.reads ok_not_err) ∙ told)) c.map_head-head.ensures
           (c.numbers_of-numbers.ensures k n unit word (saw.1 ∙ text_front k n unit bodies place text is)) is,
     )
 
 pub returns-clause-ok : goal.returns-clause-ok
 returns-clause-ok g c = λ text told.
     subst (λ h. Holds (g.R.Rig.reads c.load.new.rig) (g.R.Rig.images c.load.new.rig (g.R.Rig.clock c.load.new.rig)) c.in_ok-journal.journal h c.in_ok-journal.bodies text)
-    c.map_head-head.ensures (c.in_ok-journal.ensures.ok text (ap (on_told open_text) c.read_front.ensures.kept.reads ∙ told))
+    c.map_head-head.ensures (c.in_ok-journal.ensures.ok text (ap (on_told open_text) (c.in_ok-read_front.ensures.kept.reads ok_not_err) ∙ told))
 
 pub returns-clause-numbers : goal.returns-clause-numbers
 returns-clause-numbers g c = λ text told k n unit bodies place word is.
@@ -37,4 +38,4 @@ returns-in_err-journal-clause-no_memory g c = λ e text told.
 pub returns-in_err-journal-clause-bad_durable : goal.returns-in_err-journal-clause-bad_durable
 returns-in_err-journal-clause-bad_durable g c = λ e text told.
     let at = bad_slot_of c.load.result c.from_residual-in_err-journal.result c.in_err-journal.field-0.0 c.in_err-journal.was c.from_residual-in_err-journal.ensures.1 e in
-    c.load.ensures.bad_durable at.0 at.1 text (ap (on_told open_text) c.read_front.ensures.kept.reads ∙ told)
+    c.load.ensures.bad_durable at.0 at.1 text (ap (on_told open_text) (c.in_ok-read_front.ensures.kept.reads ok_not_err) ∙ told)
