@@ -5,6 +5,7 @@ pub mod LoadLemmas
 pub mod MakeLemmas
 pub mod FetchLemmas
 pub mod LawLemmas
-pub mod OneStoryLemmas
+pub mod OnSlotLemmas
+mod OneStoryLemmas
 pub mod StayLemmas
 pub mod ShortLemmas

@@ -1,5 +1,5 @@
 -- What a store has stored stays so.
-use Rattle.std.proofs.Common.{◌≡◌, inl, inr, ℕ, List, Option, sym, ap, subst, ◌∙◌}
+use Rattle.std.proofs.Common.{◌≡◌, ◌≢◌, inl, inr, ℕ, List, Option, sym, ap, subst, ◌∙◌}
 use Rattle.rig_disk.specs.Disk.{Image}
 use Rattle.shard_model.specs.Objects.{Geometry}
 use Rattle.shard_model.specs.Steps.{Step}
@@ -7,7 +7,7 @@ use Rattle.slot_journal.specs.Journal.{slot_of, gate_of, Holds, IsSettledWhereTo
 use Rattle.slot_journal.specs.Text.{IsText}
 use Rattle.slot_journal.specs.declared.journal.Journal.{Journal}
 use Rattle.slot_journal.proofs.CallerLemmas.{holds_over, settled_over, holds_elsewhere, settled_elsewhere, holds_saying, settled_saying}
-use Rattle.shard_store.specs.Laws.{AnyStep, StoresStayElsewhere, StoresStayOver, StoresStaySaying, StagingKeepsStored, TellingKeepsStored, TellingKeepsRest, ImagesHaveFlushed}
+use Rattle.shard_store.specs.Laws.{AnyStep, StoresStayElsewhere, OthersMayFlush, StoresStayOver, StoresStaySaying, StagingKeepsStored, TellingKeepsStored, TellingKeepsRest, ImagesHaveFlushed}
 use Rattle.shard_store.specs.Stored.{head_in, told_in, IsStored}
 use Rattle.shard_store.specs.Stories.{fresh_shard, shard_head}
 use Rattle.shard_store.specs.Told.{Told, IsTold}
@@ -49,6 +49,16 @@ module _ {R : Type 0} (reads_of : R → ℕ → ℕ → Option (List ℕ)) (cloc
         (λ bodies holds. holds_saying reads_of clock_of images_of old new store.journal same bytes (head_in store) bodies text run holds) stored),
     (λ rest. settled_saying reads_of clock_of images_of old new store.journal same bytes run rest),
   )
+
+pub others_flush : {R : Type 0} (here_of : R → ℕ → Type 0) (reads_of : R → ℕ → ℕ → Option (List ℕ)) (clock_of : R → ℕ) (images_of : R → ℕ → Image → List ℕ → Type 0)
+    → OthersMayFlush here_of reads_of clock_of images_of
+others_flush here_of reads_of clock_of images_of old new store own slot other here same run may =
+    let apart = subst (λ s. s ≢ slot) (sym may.own) other in
+    let there = subst (λ s. (a : ℕ) → reads_of new s a ≡ reads_of old s a) (sym may.own) same in
+    let stay = stay_elsewhere reads_of clock_of images_of old new store slot apart there run in (
+      record { own = may.own; here = (here own).0 may.here; accepted = may.accepted; settled = λ free. stay.1 (may.settled free) },
+      stay,
+    )
 
 -- a store with the same journal, n and geometry has the same head
 head_same : (old new : Store) → new.journal ≡ old.journal → new.n ≡ old.n → (told_in new).geometry ≡ (told_in old).geometry → head_in old ≡ head_in new

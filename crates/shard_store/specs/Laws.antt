@@ -1,5 +1,5 @@
 -- Laws of stories. Source: this project.
-use Rattle.std.specs.Prelude.{◌≡◌, ◌≢◌, ◌⊎◌, ◌<◌, ◌*◌, ℕ, List, Option, Some}
+use Rattle.std.specs.Prelude.{◌≡◌, ◌≢◌, ◌⊎◌, ◌↔◌, ◌<◌, ◌*◌, ℕ, List, Option, Some}
 use Rattle.rig_disk.specs.Disk.{Image, Saying}
 use Rattle.rig_disk.specs.During.{During}
 use Rattle.shard_model.specs.Objects.{Geometry}
@@ -8,6 +8,7 @@ use Rattle.shard_model.specs.Steps.{Step}
 use Rattle.slot_journal.specs.InUse.{Areas, text_in_use}
 use Rattle.slot_journal.specs.Journal.{InSlot}
 use Rattle.slot_journal.specs.Text.{IsBadText}
+use Rattle.shard_store.specs.OnSlot.{MayFlush}
 use Rattle.shard_store.specs.Stored.{slot_in, head_in, told_in, Becomes, IsAtRest, IsStored}
 use Rattle.shard_store.specs.Stories.{fresh_shard, shard_after, AreFitting, HasShard, IsBadStory}
 use Rattle.shard_store.specs.Told.{IsTold, with_step, none_staged}
@@ -48,6 +49,15 @@ StoresStayElsewhere {R} reads_of clock_of images_of =
     (old new : R) (store : Store) (slot : ℕ) → slot_in store ≢ slot
     → ((a : ℕ) → reads_of new (slot_in store) a ≡ reads_of old (slot_in store) a)
     → During clock_of images_of old new (InSlot (images_of old (clock_of old)) slot AnyStep) → StaysStored reads_of clock_of images_of old new store
+
+-- so a store that may be flushed may be so after a call on another slot, such as the flush of another store
+abbrev pub OthersMayFlush : {R : Type 0} → (R → ℕ → Type 0) → (R → ℕ → ℕ → Option (List ℕ)) → (R → ℕ) → (R → ℕ → Image → List ℕ → Type 0) → Type 0
+OthersMayFlush {R} here_of reads_of clock_of images_of =
+    (old new : R) (store : Store) (own slot : ℕ) → own ≢ slot → ((s : ℕ) → here_of old s ↔ here_of new s)
+    → ((a : ℕ) → reads_of new own a ≡ reads_of old own a)
+    → During clock_of images_of old new (InSlot (images_of old (clock_of old)) slot AnyStep)
+    → MayFlush (here_of old) (reads_of old) (images_of old (clock_of old)) own store
+    → MayFlush (here_of new) (reads_of new) (images_of new (clock_of new)) own store × StaysStored reads_of clock_of images_of old new store
 
 -- over a call that changes no image
 abbrev pub StoresStayOver : {R : Type 0} → (R → ℕ → ℕ → Option (List ℕ)) → (R → ℕ) → (R → ℕ → Image → List ℕ → Type 0) → Type 0

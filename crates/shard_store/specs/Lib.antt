@@ -3,6 +3,7 @@ pub mod Inner
 pub mod Laws
 pub mod Lending
 pub mod Limits
+pub mod OnSlot
 pub mod Ranges
 pub mod Seconds
 pub mod Shelved

@@ -1,5 +1,5 @@
 //! Laws about texts and stores, for every caller: functions that do nothing and whose contract is the law.
-ghost use Rattle.shard_store.specs.Laws.{ShardsAreReplays, TextsHaveOneStory, BadTextsHaveNoStory, StoresStayElsewhere, StoresStayOver, StoresStaySaying, StagingKeepsStored, TellingKeepsStored, TellingKeepsRest, ImagesHaveFlushed};
+ghost use Rattle.shard_store.specs.Laws.{ShardsAreReplays, TextsHaveOneStory, BadTextsHaveNoStory, StoresStayElsewhere, OthersMayFlush, StoresStayOver, StoresStaySaying, StagingKeepsStored, TellingKeepsStored, TellingKeepsRest, ImagesHaveFlushed};
 
 use rig_disk::Rig;
 use slot_journal::{bad_texts_have_one_place, texts_have_one_reading};
@@ -37,4 +37,10 @@ pub fn stored_goes_on<R: Rig>()
     ensures telling { TellingKeepsStored R.reads R.clock R.images }
     ensures rest { TellingKeepsRest R.reads R.clock R.images }
     ensures images { ImagesHaveFlushed R.reads R.clock R.images }
+{}
+
+/// A store that may be flushed may be so after a call on another slot, such as the flush of another store, and has stored what
+/// it had.
+pub fn others_may_flush<R: Rig>()
+    ensures { OthersMayFlush R.is_here R.reads R.clock R.images }
 {}

@@ -13,14 +13,15 @@ mod fault;
 mod header;
 mod laws;
 mod loading;
+mod on_slot;
 mod shelf;
 mod store;
 mod story;
 
 pub use fault::StoreFault;
 pub use laws::{
-    bad_texts_have_no_story, shards_are_replays, stored_goes_on, stores_stay_stored,
-    texts_have_one_story,
+    bad_texts_have_no_story, others_may_flush, shards_are_replays, stored_goes_on,
+    stores_stay_stored, texts_have_one_story,
 };
 pub use shelf::{FetchFault, Shelf};
 pub use store::Store;

@@ -52,6 +52,7 @@ impl Model for Shelf {
 
 impl Shelf {
     ghost use Rattle.shard_store.specs.Lending.{LendsStore};
+    ghost use Rattle.shard_store.specs.OnSlot.{AreOwn};
     ghost use Rattle.shard_store.specs.Shelves.{store_at, fetched_on, KeepsStores, Counts};
     ghost use Rattle.shard_store.specs.Stored.{slot_in};
     ghost use Rattle.shard_store.specs.Ranges.{range_of};
@@ -61,6 +62,7 @@ impl Shelf {
     pub fn new() -> Shelf
         ensures stores { (slot : ℕ) → store_at result slot ≡ None }
         ensures fetched { (slot : ℕ) → fetched_on result slot ≡ 0 }
+        ensures own { AreOwn result }
     {
         Shelf {
             stores: ArrayVec::from_array_in(
@@ -80,8 +82,9 @@ impl Shelf {
         requires own { slot_in store ≡ slot }
         ensures value { store_at self.new slot ≡ Some store }
         ensures others { KeepsStores self.old self.new slot }
+        ensures own { AreOwn self.old → AreOwn self.new }
     {
-        self.stores[slot as usize] = Some(store);
+        self.set(slot, Some(store));
     }
 
     /// Drops a slot's store.
@@ -89,8 +92,17 @@ impl Shelf {
         requires { slot < 16 }
         ensures value { store_at self.new slot ≡ None }
         ensures others { KeepsStores self.old self.new slot }
+        ensures own { AreOwn self.old → AreOwn self.new }
     {
-        self.stores[slot as usize] = None;
+        self.set(slot, None);
+    }
+
+    fn set(&mut self, slot: u8, store: Option<Store>)
+        requires { slot < 16 }
+        ensures value { store_at self.new slot ≡ store }
+        ensures others { KeepsStores self.old self.new slot }
+    {
+        self.stores[slot as usize] = store;
     }
 
     /// A slot's store. `None` exactly where none was put there since it was last dropped. From slot 16 on there is none.

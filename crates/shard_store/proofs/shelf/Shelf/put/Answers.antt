@@ -1,0 +1,6 @@
+use Rattle.std.proofs.Common.{Some}
+use Rattle.shard_store.proofs.OnSlotLemmas.{own_put}
+use Rattle.shard_store.proofs.shelf.Shelf.put.Goals as goal
+
+pub returns-clause-own : goal.returns-clause-own
+returns-clause-own c own = own_put c.args.self.now c.set.new.self c.args.slot (Some c.args.store) c.set.ensures.others c.set.ensures.value c.requires.own own
