@@ -6,8 +6,10 @@ use Rattle.ec_words.specs.Readers.{IsCounted}
 use Rattle.ec_words.specs.Readers.{AreBytes}
 use Rattle.ec_words.proofs.ReaderLemmas.{same_read, not_read}
 use Rattle.std.proofs.Common.{Some, None}
-use Rattle.pool_map.specs.Maps.{PoolImage, Story, LeadAll, new_story, story_of, IsMapOf, IsCanonical}
-use Rattle.pool_map.specs.Steps.{MapStep, Profile, step_bytes}
+use Rattle.map_model.specs.States.{MapState, new_state}
+use Rattle.pool_map.specs.Maps.{PoolImage, LeadAll, IsMapOf, IsCanonical, map_format}
+use Rattle.map_model.specs.Steps.{MapStep, Profile}
+use Rattle.pool_map.specs.Steps.{step_bytes}
 use Rattle.pool_map.specs.StepReading.{read_step}
 use Rattle.pool_map.proofs.ReadingLemmas.{step_reading}
 
@@ -43,7 +45,7 @@ pub first_other : (body rest : List ℕ) (s : MapStep) → read_step body ≡ So
 first_other body rest s read other lines more counted is =
     other lines (same_read (Profile lines) s more rest (sym (step_reading.spelled (Profile lines) more counted) ∙ ap read_step (sym is) ∙ read)).0
 
-module _ (k unit n : ℕ) (bodies : List (List ℕ)) (m : PoolImage) (same_n : m.n ≡ n) (is : IsMapOf k unit bodies m) where
+module _ (k unit n : ℕ) (bodies : List (List ℕ)) (m : PoolImage) (same_n : m.n ≡ n) (is : IsMapOf k unit map_format bodies m) where
   pub not_none : length bodies ≡ 0 → ⊥
   not_none none = omega (arith, none, ap length is.bytes)
 
@@ -60,11 +62,11 @@ module _ (k unit n : ℕ) (bodies : List (List ℕ)) (m : PoolImage) (same_n : m
           none m.profile (subst (λ (l : List ℕ). IsCanonical l m.profile k n unit) (only is.lines is.rest is.counted parts.0).0
           (subst (λ (x : ℕ). IsCanonical is.lines m.profile k x unit) same_n is.canonical))
 
-      pub not_story : ((other : Story) → LeadAll n new_story (rest ∷ more) other → ⊥) → ⊥
-      not_story none =
-          none (story_of m) (subst (λ (bs : List (List ℕ)). LeadAll n new_story (rest ∷ bs) (story_of m)) (sym parts.1)
-          (subst (λ (r : List ℕ). LeadAll n new_story (r ∷ is.more) (story_of m)) (only is.lines is.rest is.counted parts.0).1
-          (subst (λ (x : ℕ). LeadAll x new_story (is.rest ∷ is.more) (story_of m)) same_n is.lead)))
+      pub not_state : ((other : MapState) → LeadAll n (new_state map_format) (rest ∷ more) other → ⊥) → ⊥
+      not_state none =
+          none m.state (subst (λ (bs : List (List ℕ)). LeadAll n (new_state map_format) (rest ∷ bs) m.state) (sym parts.1)
+          (subst (λ (r : List ℕ). LeadAll n (new_state map_format) (r ∷ is.more) m.state) (only is.lines is.rest is.counted parts.0).1
+          (subst (λ (x : ℕ). LeadAll x (new_state map_format) (is.rest ∷ is.more) m.state) same_n is.lead)))
 
 -- bytes of a slice are bytes
 fits_byte : (x : ℕ) → Fits w8 x → x < 256

@@ -6,18 +6,12 @@ use Rattle.ec_words.specs.Intervals.{Interval}
 use Rattle.plugin_reg.specs.Canonical.{IsWritable}
 use Rattle.plugin_reg.specs.Laws.{ReadProfilesAreWritable}
 use Rattle.plugin_reg.specs.Opening.{GivesProfile}
-use Rattle.pool_map.specs.Maps.{last_of, epoch_of, last_epoch, begun, is_inside, may_join}
+use Rattle.map_model.proofs.LastLemmas.{last_pushed}
+use Rattle.map_model.specs.States.{last_of, epoch_of, last_epoch, begun, is_inside, may_join}
 
 -- a profile that a text gives can be written
 pub given_is_writable : (text : List ℕ) (p : Profile) → ReadProfilesAreWritable → GivesProfile text p → IsWritable p
 given_is_writable text p law gives = law text p gives.read
-
--- the last of a list with one more is that one
-pub last_pushed : (intervals : List Interval) (last : Interval) → last_of (intervals ++ last ∷ []) ≡ Some last
-unfolding last_of
-last_pushed [] last = refl
-last_pushed (x ∷ []) last = refl
-last_pushed (x ∷ (y ∷ rest)) last = last_pushed (y ∷ rest) last
 
 begun_joins : (epoch up joined : ℕ) → is_inside joined up ≡ true → 0 < joined → may_join epoch joined (Some (begun epoch up)) ≡ true
 begun_joins epoch up joined inside some = grind (arith, nat_tests, inside, some)

@@ -3,13 +3,13 @@ pub mod CallerLemmas
 mod FaultLemmas
 mod FrontLemmas
 mod HeldLemmas
+mod MadeLemmas
 mod MakeLemmas
 mod OneMapLemmas
 mod PlainLemmas
-mod PositionLemmas
 mod RangeLemmas
 mod ReadingLemmas
 pub mod SoundLemmas
-mod StoryLemmas
+mod StateLemmas
 mod TextLemmas
 mod WorkLemmas

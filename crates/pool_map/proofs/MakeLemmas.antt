@@ -18,10 +18,12 @@ use Rattle.ec_code.proofs.GivenLemmas.{of_settings, of_text}
 use Rattle.ec_words.specs.Intervals.{Interval, with_last_alive}
 use Rattle.plugin_reg.specs.Canonical.{canonical_lines, lines_of, settings_by, lrc_settings, least_of, PrintsAgain}
 use Rattle.ec_words.specs.Readers.{version_bytes}
-use Rattle.pool_map.specs.Maps.{Story, Leads, new_story, last_of, fits, story_after, replay, begun, is_inside, IsMapOf, IsCanonical}
+use Rattle.map_model.specs.States.{MapState, new_state, with_intervals, last_of, fits, state_after, replay, begun, is_inside}
+use Rattle.pool_map.specs.Maps.{Leads, IsMapOf, IsCanonical, map_format}
 use Rattle.pool_map.specs.Pool.{all_of, first_interval, new_map}
-use Rattle.pool_map.specs.Steps.{Begin, Alive, Profile, step_bytes}
-use Rattle.pool_map.proofs.StoryLemmas.{replay_step}
+use Rattle.map_model.specs.Steps.{Begin, Alive, Profile}
+use Rattle.pool_map.specs.Steps.{step_bytes}
+use Rattle.map_model.proofs.ReplayLemmas.{replay_step, nothing_more}
 
 -- the mask of all positions lies below n, is inside itself, and is not empty
 masks : ℕ → Bool
@@ -60,11 +62,11 @@ masks_parts n all =
     let second = and_parts (nat_lt (all_of n) (2 ^ n)) _ first.1 in
     record { word = grind (arith, nat_tests, first.0); below = second.0; joined = second.1 }
 
-fit_begin : (n : ℕ) → nat_lt (all_of n) (2 ^ n) ≡ true → fits n new_story (Begin 1 (all_of n)) ≡ true
+fit_begin : (n : ℕ) → nat_lt (all_of n) (2 ^ n) ≡ true → fits n (new_state map_format) (Begin 1 (all_of n)) ≡ true
 unfolding last_of
 fit_begin n below = below
 
-fit_alive : (n : ℕ) → (is_inside (all_of n) (all_of n) && nat_lt 0 (all_of n)) ≡ true → fits n (story_after new_story (Begin 1 (all_of n))) (Alive 1 (all_of n) zero_version) ≡ true
+fit_alive : (n : ℕ) → (is_inside (all_of n) (all_of n) && nat_lt 0 (all_of n)) ≡ true → fits n (state_after (new_state map_format) (Begin 1 (all_of n))) (Alive 1 (all_of n) zero_version) ≡ true
 unfolding last_of
 fit_alive n joined = joined
 
@@ -72,23 +74,22 @@ one_alive : (n : ℕ) → with_last_alive (all_of n) zero_version (begun 1 (all_
 unfolding with_last_alive
 one_alive n = refl
 
-nothing_more : (n : ℕ) (story : Story) → replay n [] story ≡ Some story
-unfolding replay
-nothing_more n story = refl
-
 abbrev first_steps : ℕ → List ℕ
 first_steps n = step_bytes (Begin 1 (all_of n)) ++ step_bytes (Alive 1 (all_of n) zero_version)
 
-new_leads : (n : ℕ) → Fits n → Leads n new_story (first_steps n) (record { intervals = first_interval n ∷ []; marks = 0 })
+abbrev first_state : ℕ → MapState
+first_state n = with_intervals (new_state map_format) (first_interval n ∷ [])
+
+new_leads : (n : ℕ) → Fits n → Leads n (new_state map_format) (first_steps n) (first_state n)
 new_leads n fit = record {
   steps = Begin 1 (all_of n) ∷ Alive 1 (all_of n) zero_version ∷ [];
   writable = ((omega arith, fit.word), ((omega arith, (fit.word, (omega arith, omega arith))), tt));
   bytes = ap (λ (t : List ℕ). step_bytes (Begin 1 (all_of n)) ++ t) (sym (append-nil (step_bytes (Alive 1 (all_of n) zero_version))));
   done =
-      let last : Story = record { intervals = first_interval n ∷ []; marks = 0 } in
-      replay_step n new_story last (Begin 1 (all_of n)) (Alive 1 (all_of n) zero_version ∷ []) (fit_begin n fit.below)
-      (replay_step n (story_after new_story (Begin 1 (all_of n))) last (Alive 1 (all_of n) zero_version) [] (fit_alive n fit.joined)
-      (nothing_more n _ ∙ ap (λ (ivs : List Interval). Some (record { intervals = ivs; marks = 0 })) (one_alive n)));
+      let first = new_state map_format in
+      replay_step n first (first_state n) (Begin 1 (all_of n)) (Alive 1 (all_of n) zero_version ∷ []) (fit_begin n fit.below)
+      (replay_step n (state_after first (Begin 1 (all_of n))) (first_state n) (Alive 1 (all_of n) zero_version) [] (fit_alive n fit.joined)
+      (nothing_more n _ ∙ ap (λ (ivs : List Interval). Some (with_intervals first ivs)) (one_alive n)));
 }
 
 lrc_not_object : (p : Plain) (least : ℕ) (b : Bool) → begins_object (lines_of (lrc_settings b p least)) ≡ false
@@ -140,7 +141,7 @@ not_refused p k n lead lines f is ascii prints refused = no_ok f prints.again (s
 pub first_gives : (p own : Plain) (k n lead : ℕ) (lines body : List ℕ) → 1 ≤ n → n ≤ 16 → length lines ≤ 4000 → lines ≡ canonical_lines p k n
     → PrintsAgain lines k n lead → profile_of_bytes lines ≡ Ok own
     → body ≡ step_bytes (Profile lines) ++ (step_bytes (Begin 1 (all_of n)) ++ step_bytes (Alive 1 (all_of n) zero_version))
-    → IsMapOf k own.stripe_unit (body ∷ []) (new_map own n)
+    → IsMapOf k own.stripe_unit map_format (body ∷ []) (new_map own n)
 first_gives p own k n lead lines body some few short is prints read bytes = record {
   lines = lines;
   rest = first_steps n;
@@ -149,8 +150,6 @@ first_gives p own k n lead lines body some few short is prints read bytes = reco
   bytes = ap (λ (b : List ℕ). b ∷ []) bytes;
   canonical = canonical_again p own k n lead lines is prints read;
   lead = (_, (new_leads n (masks_parts n (masks_fit n some few)), refl));
-  first_format = refl;
-  first_clean = refl;
 }
 
 pub body_short : (n : ℕ) (lines body : List ℕ) → length lines ≤ 4000

@@ -9,12 +9,14 @@ use Rattle.ec_code.specs.JsonProfiles.{profile_of_bytes}
 use Rattle.ec_words.specs.Readers.{IsWord}
 use Rattle.ec_words.proofs.ReaderLemmas.{same_read}
 use Rattle.slot_journal.specs.Laws.{TextsHaveOneReading}
-use Rattle.pool_map.specs.Maps.{PoolImage, Story, Leads, LeadAll, new_story, story_of, replay, map_head, IsMapOf, IsMapText}
-use Rattle.pool_map.specs.Steps.{MapStep, Profile, step_bytes, steps_bytes, IsWritable}
+use Rattle.map_model.specs.States.{MapState, new_state, replay}
+use Rattle.pool_map.specs.Maps.{PoolImage, Leads, LeadAll, map_head, format_in, IsMapOf, IsMapText}
+use Rattle.map_model.specs.Steps.{MapStep, Profile}
+use Rattle.pool_map.specs.Steps.{step_bytes, steps_bytes, IsWritable}
 use Rattle.pool_map.specs.StepReading.{read_step}
 use Rattle.pool_map.proofs.BodyLemmas.{first_only}
 use Rattle.pool_map.proofs.ReadingLemmas.{step_reading}
-use Rattle.pool_map.proofs.StoryLemmas.{no_bytes}
+use Rattle.pool_map.proofs.StateLemmas.{no_bytes}
 use Rattle.pool_map.proofs.TextLemmas.{text_front}
 
 -- bytes are those of one list of steps
@@ -28,20 +30,20 @@ one_list (s ∷ steps) (t ∷ others) first second same =
     let rest = one_list steps others first.1 second.1 read.1 in
     (λ i. read.0 i ∷ rest i)
 
-some_same : (a b : Story) → ◌≡◌ {A = Option Story} (Some a) (Some b) → a ≡ b
+some_same : (a b : MapState) → ◌≡◌ {A = Option MapState} (Some a) (Some b) → a ≡ b
 some_same a b e = cc
 
--- a body leads to one story, and bodies do
-one_after : (n : ℕ) (story one other : Story) (body : List ℕ) → Leads n story body one → Leads n story body other → one ≡ other
-one_after n story one other body first second =
+-- a body leads to one state, and bodies do
+one_after : (n : ℕ) (state one other : MapState) (body : List ℕ) → Leads n state body one → Leads n state body other → one ≡ other
+one_after n state one other body first second =
     let same = one_list first.steps second.steps first.writable second.writable (sym first.bytes ∙ second.bytes) in
-    some_same one other (sym first.done ∙ ap (λ (steps : List MapStep). replay n steps story) same ∙ second.done)
+    some_same one other (sym first.done ∙ ap (λ (steps : List MapStep). replay n steps state) same ∙ second.done)
 
-pub one_story : (n : ℕ) (story one other : Story) (bodies : List (List ℕ)) → LeadAll n story bodies one → LeadAll n story bodies other → one ≡ other
-one_story n story one other [] first second = sym first ∙ second
-one_story n story one other (body ∷ bodies) first second =
-    let mid = one_after n story first.0 second.0 body first.1.0 second.1.0 in
-    one_story n second.0 one other bodies (subst (λ (s : Story). LeadAll n s bodies one) mid first.1.1) second.1.1
+pub one_state : (n : ℕ) (state one other : MapState) (bodies : List (List ℕ)) → LeadAll n state bodies one → LeadAll n state bodies other → one ≡ other
+one_state n state one other [] first second = sym first ∙ second
+one_state n state one other (body ∷ bodies) first second =
+    let mid = one_after n state first.0 second.0 body first.1.0 second.1.0 in
+    one_state n second.0 one other bodies (subst (λ (s : MapState). LeadAll n s bodies one) mid first.1.1) second.1.1
 
 ok_same : (p q : Plain) → ◌≡◌ {A = Result Plain ProfileFault} (Ok p) (Ok q) → p ≡ q
 ok_same p q e = cc
@@ -50,28 +52,21 @@ same_bodies : (a b : List ℕ) (more rest : List (List ℕ)) → ◌≡◌ {A = 
 same_bodies a b more rest e = (cc, cc)
 
 -- maps of the same parts are one
-same_image : (m o : PoolImage) → m.profile ≡ o.profile → m.n ≡ o.n → m.format ≡ o.format → m.clean ≡ o.clean → story_of m ≡ story_of o → m ≡ o
-same_image m o profile n format clean story = λ i. record {
-  profile = profile i;
-  n = n i;
-  format = format i;
-  clean = clean i;
-  intervals = (story i).intervals;
-  marks = (story i).marks;
-}
+same_image : (m o : PoolImage) → m.profile ≡ o.profile → m.n ≡ o.n → m.state ≡ o.state → m ≡ o
+same_image m o profile n state = λ i. record { profile = profile i; n = n i; state = state i }
 
 -- the records of a text are one map
-pub one_map : (k unit : ℕ) (bodies : List (List ℕ)) (one other : PoolImage) → one.n ≡ other.n → IsMapOf k unit bodies one → IsMapOf k unit bodies other → one ≡ other
-one_map k unit bodies one other same first second =
+pub one_map : (k unit format : ℕ) (bodies : List (List ℕ)) (one other : PoolImage) → one.n ≡ other.n → IsMapOf k unit format bodies one → IsMapOf k unit format bodies other → one ≡ other
+one_map k unit format bodies one other same first second =
     let split = same_bodies (step_bytes (Profile first.lines) ++ first.rest) (step_bytes (Profile second.lines) ++ second.rest) first.more second.more (sym first.bytes ∙ second.bytes) in
     let lines = first_only (step_bytes (Profile second.lines) ++ second.rest) second.rest second.lines (step_reading.spelled (Profile second.lines) second.rest second.counted)
     first.lines first.rest first.counted (sym split.0) in
     let profile = ok_same one.profile other.profile (sym first.canonical.read ∙ ap profile_of_bytes lines.0 ∙ second.canonical.read) in
-    let lead = subst (λ (more : List (List ℕ)). LeadAll other.n new_story (second.rest ∷ more) (story_of one)) split.1
-    (subst (λ (rest : List ℕ). LeadAll other.n new_story (rest ∷ first.more) (story_of one)) lines.1
-    (subst (λ (n : ℕ). LeadAll n new_story (first.rest ∷ first.more) (story_of one)) same first.lead)) in
-    same_image one other profile same (first.first_format ∙ sym second.first_format) (first.first_clean ∙ sym second.first_clean)
-    (one_story other.n new_story (story_of one) (story_of other) (second.rest ∷ second.more) lead second.lead)
+    let lead = subst (λ (more : List (List ℕ)). LeadAll other.n (new_state format) (second.rest ∷ more) one.state) split.1
+    (subst (λ (rest : List ℕ). LeadAll other.n (new_state format) (rest ∷ first.more) one.state) lines.1
+    (subst (λ (n : ℕ). LeadAll n (new_state format) (first.rest ∷ first.more) one.state) same first.lead)) in
+    same_image one other profile same
+    (one_state other.n (new_state format) one.state other.state (second.rest ∷ second.more) lead second.lead)
 
 -- a head has one set of numbers
 heads_same : (k n unit own_k own_n own_unit : ℕ) → IsWord unit → IsWord own_unit → map_head k n unit ≡ map_head own_k own_n own_unit
@@ -91,8 +86,8 @@ one_text_map law text one other first second =
     let front = sym (text_front first.k one.n first.unit first.bodies first.place text first.is_text) ∙ text_front second.k other.n second.unit second.bodies second.place text second.is_text in
     let numbers = heads_same first.k one.n first.unit second.k other.n second.unit first.word second.word (ap (λ (t : List ℕ). drop 1 t) front) in
     let bodies = (law text (map_head first.k one.n first.unit) (map_head second.k other.n second.unit) first.bodies second.bodies first.place second.place first.is_text second.is_text).0 in
-    one_map second.k second.unit second.bodies one other numbers.1.0
-    (subst (λ (k : ℕ). IsMapOf k second.unit second.bodies one) numbers.0
-    (subst (λ (unit : ℕ). IsMapOf first.k unit second.bodies one) numbers.1.1
-    (subst (λ (bs : List (List ℕ)). IsMapOf first.k first.unit bs one) bodies first.gives)))
+    one_map second.k second.unit (format_in text) second.bodies one other numbers.1.0
+    (subst (λ (k : ℕ). IsMapOf k second.unit (format_in text) second.bodies one) numbers.0
+    (subst (λ (unit : ℕ). IsMapOf first.k unit (format_in text) second.bodies one) numbers.1.1
+    (subst (λ (bs : List (List ℕ)). IsMapOf first.k first.unit (format_in text) bs one) bodies first.gives)))
     second.gives

@@ -8,7 +8,8 @@ use Rattle.ec_words.specs.Readers.{version_bytes, IsWord, HasWords}
 use Rattle.ec_words.specs.Readers.{Reader, AreBytes, IsReadingOf, mapped, both, read_byte, read_u32, read_counted, read_version}
 use Rattle.ec_words.proofs.ReaderLemmas.{same_read, not_read, parts, on, both_reading, byte_reading, u32_reading}
 use Rattle.ec_words.proofs.ReaderLemmas.{counted_list, version_reading}
-use Rattle.pool_map.specs.Steps.{MapStep, Profile, Begin, Alive, Mark, mask_bytes, step_bytes, IsWritable}
+use Rattle.map_model.specs.Steps.{MapStep, Profile, Begin, Alive, Mark}
+use Rattle.pool_map.specs.Steps.{mask_bytes, step_bytes, IsWritable}
 use Rattle.pool_map.specs.StepReading.{mask_from, read_mask, begin_of, alive_of, mark_of, read_lines, read_begin, read_alive, read_mark, read_kind, read_step}
 
 -- values read in another form, which can be turned back

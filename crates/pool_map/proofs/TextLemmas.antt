@@ -14,7 +14,7 @@ use Rattle.slot_journal.specs.Text.{Serves, IsHeader, records, IsText, IsBadText
 use Rattle.slot_journal.specs.declared.fault.JournalFault.{JournalFault}
 use Rattle.slot_journal.specs.declared.fault.JournalFault.TheVariants as journal
 use Rattle.pool_map.specs.Faults.{of_journal}
-use Rattle.pool_map.specs.Maps.{map_head}
+use Rattle.pool_map.specs.Maps.{PoolImage, map_head, map_format, format_in, IsMapOf}
 use Rattle.pool_map.specs.declared.fault.MapFault.{MapFault}
 use Rattle.pool_map.specs.declared.fault.MapFault.TheVariants as map
 use Rattle.pool_map.proofs.FaultLemmas.{err_by}
@@ -74,3 +74,26 @@ no_text head text k n unit own_k own_n own_unit at bodies place law bad is same 
     (subst (λ (x : ℕ). IsText (map_head x own_n own_unit) bodies place text) same.0
     (subst (λ (x : ℕ). IsText (map_head k x own_unit) bodies place text) same.1.0
     (subst (λ (x : ℕ). IsText (map_head k n x) bodies place text) same.1.1 is_text))))
+
+-- so the format that it says is the one that is written
+front_format : (t : List ℕ) → get_or (take 24 t) 8 0 ≡ get_or t 8 0
+front_format [] = refl
+front_format (a ∷ []) = refl
+front_format (a ∷ (b ∷ [])) = refl
+front_format (a ∷ (b ∷ (c ∷ []))) = refl
+front_format (a ∷ (b ∷ (c ∷ (d ∷ [])))) = refl
+front_format (a ∷ (b ∷ (c ∷ (d ∷ (e ∷ []))))) = refl
+front_format (a ∷ (b ∷ (c ∷ (d ∷ (e ∷ (f ∷ [])))))) = refl
+front_format (a ∷ (b ∷ (c ∷ (d ∷ (e ∷ (f ∷ (g ∷ []))))))) = refl
+front_format (a ∷ (b ∷ (c ∷ (d ∷ (e ∷ (f ∷ (g ∷ (h ∷ [])))))))) = refl
+front_format (a ∷ (b ∷ (c ∷ (d ∷ (e ∷ (f ∷ (g ∷ (h ∷ (i ∷ t))))))))) = refl
+
+module _ (k n unit : ℕ) (bodies : List (List ℕ)) (place : ℕ) (text : List ℕ) (is : IsText (map_head k n unit) bodies place text) where
+  text_format : format_in text ≡ map_format
+  text_format = sym (front_format text) ∙ ap (λ (t : List ℕ). get_or t 8 0) (text_front k n unit bodies place text is)
+
+  pub text_gives : (m : PoolImage) → IsMapOf k unit map_format bodies m → IsMapOf k unit (format_in text) bodies m
+  text_gives m gives = subst (λ (f : ℕ). IsMapOf k unit f bodies m) (sym text_format) gives
+
+  pub gives_own : (m : PoolImage) → IsMapOf k unit (format_in text) bodies m → IsMapOf k unit map_format bodies m
+  gives_own m gives = subst (λ (f : ℕ). IsMapOf k unit f bodies m) text_format gives

@@ -1,15 +1,14 @@
 -- Laws of maps. Source: this project.
-use Rattle.std.specs.Prelude.{◌≡◌, ◌≢◌, ◌↔◌, ◌⊎◌, ℕ, true, List, Option}
-use Rattle.ec_model.specs.Codes.{HasPosition}
+use Rattle.std.specs.Prelude.{◌≡◌, ◌≢◌, ℕ, List, Option}
 use Rattle.ec_words.specs.Intervals.{JoinedLieBelow}
 use Rattle.rig_disk.specs.Disk.{Image}
 use Rattle.rig_disk.specs.During.{During}
 use Rattle.slot_journal.specs.InUse.{Areas}
 use Rattle.slot_journal.specs.Journal.{InSlot, IsSettledWhereTold}
-use Rattle.pool_map.specs.Maps.{PoolImage, Story, IsMapText, kept, story_of, fits, story_after, is_inside, with_mark}
+use Rattle.map_model.specs.States.{kept}
+use Rattle.pool_map.specs.Maps.{PoolImage, IsMapText}
 use Rattle.pool_map.specs.Pool.{HoldsMap, journal_of, map_of}
-use Rattle.pool_map.specs.Sound.{IsSound}
-use Rattle.pool_map.specs.Steps.{MapStep}
+use Rattle.map_model.specs.Sound.{IsSound}
 use Rattle.pool_map.specs.declared.map.PoolMap.{PoolMap}
 
 -- a text has one map at most
@@ -18,31 +17,11 @@ TextsHaveOneMap = (text : List ℕ) (one other : PoolImage) → IsMapText text o
 
 -- the intervals of a text's map name slots below n, and their epochs ascend by one from 1
 abbrev pub MapsAreSound : Type 0
-MapsAreSound = (text : List ℕ) (m : PoolImage) → IsMapText text m → IsSound m.n (story_of m)
+MapsAreSound = (text : List ℕ) (m : PoolImage) → IsMapText text m → IsSound m.n m.state
 
--- so the joined sets lie below n, as a choice asks
+-- so the joined sets lie below n, as a choice asks, those of all intervals and those of the kept ones
 abbrev pub JoinedSetsLieBelow : Type 0
-JoinedSetsLieBelow = (text : List ℕ) (m : PoolImage) → IsMapText text m → JoinedLieBelow m.n m.intervals
-
--- a step that fits keeps what holds of the intervals and the marks of every map
-abbrev pub StepsKeepSound : Type 0
-StepsKeepSound = (n : ℕ) (story : Story) (step : MapStep) → IsSound n story → fits n story step ≡ true → IsSound n (story_after story step)
-
--- a mask is inside another where each of its positions is one of the other
-abbrev pub InsideByPositions : Type 0
-InsideByPositions = (mask other : ℕ) → (is_inside mask other ≡ true) ↔ ((p : ℕ) → HasPosition mask p → HasPosition other p)
-
--- a mark adds a position to a mask, and taking it away leaves all others
-pub record MarksByPositions (slot marks p : ℕ) : Type 0 where
-  pub down : HasPosition (with_mark slot 1 marks) p ↔ ((p ≡ slot) ⊎ HasPosition marks p)
-  pub up : HasPosition (with_mark slot 0 marks) p ↔ ((p ≢ slot) × HasPosition marks p)
-
-abbrev pub MarksAreByPositions : Type 0
-MarksAreByPositions = (slot marks p : ℕ) → MarksByPositions slot marks p
-
--- the intervals of a text's map are all kept
-abbrev pub AllAreKept : Type 0
-AllAreKept = (text : List ℕ) (m : PoolImage) → IsMapText text m → kept m ≡ m.intervals
+JoinedSetsLieBelow = (text : List ℕ) (m : PoolImage) → IsMapText text m → JoinedLieBelow m.n m.state.intervals × JoinedLieBelow m.n (kept m.state)
 
 -- an image has in a slot what one of these images has there
 pub record HasSlotOf (images : Image → List ℕ → Type 0) (slot : ℕ) (image : Image) : Type 0 where

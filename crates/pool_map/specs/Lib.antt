@@ -3,6 +3,5 @@ pub mod Laws
 pub mod Maps
 pub mod Meanings
 pub mod Pool
-pub mod Sound
 pub mod StepReading
 pub mod Steps

@@ -10,9 +10,11 @@ use Rattle.ec_words.specs.Readers.{IsWord}
 use Rattle.slot_journal.specs.InUse.{Areas, text_in_use, told_text}
 use Rattle.slot_journal.specs.Journal.{Holds, area_of, room_of}
 use Rattle.slot_journal.specs.declared.journal.Journal.{Journal}
-use Rattle.pool_map.specs.Maps.{PoolImage, map_slot, last_epoch, epoch_limit, story_of, story_after, with_story, map_head, IsMapOf, IsNoPool, HasMap}
+use Rattle.map_model.specs.States.{last_epoch, epoch_limit, state_after}
+use Rattle.pool_map.specs.Maps.{PoolImage, map_slot, map_format, format_in, with_state, map_head, IsMapOf, IsNoPool, HasMap}
 use Rattle.pool_map.specs.Meanings.{image_of}
-use Rattle.pool_map.specs.Steps.{MapStep}
+use Rattle.map_model.specs.States.{new_state, with_intervals}
+use Rattle.map_model.specs.Steps.{MapStep}
 use Rattle.pool_map.specs.declared.map.PoolMap.{PoolMap}
 
 abbrev pub journal_of : PoolMap → Journal
@@ -20,7 +22,7 @@ journal_of map = map.journal
 
 -- the map that it is
 abbrev pub map_of : PoolMap → PoolImage
-map_of map = image_of map.profile map.story
+map_of map = image_of map.profile map.state
 
 -- the map's slot reads as a text of the map, and each image of now has just that text in use
 pub record HoldsMap (reads : ℕ → ℕ → Option (List ℕ)) (images : Image → List ℕ → Type 0) (journal : Journal) (m : PoolImage)
@@ -30,11 +32,11 @@ pub record HoldsMap (reads : ℕ → ℕ → Option (List ℕ)) (images : Image 
   pub word : IsWord unit
   pub bodies : List (List ℕ)
   pub holds : Holds reads images journal (map_head k m.n unit) bodies text
-  pub gives : IsMapOf k unit bodies m
+  pub gives : IsMapOf k unit (format_in text) bodies m
 
 -- the map after one step more
 abbrev pub map_after : PoolImage → MapStep → PoolImage
-map_after m step = with_story m (story_after (story_of m) step)
+map_after m step = with_state m (state_after m.state step)
 
 -- a step on the map at each of its instants: one area alone changes, and where the map was held, the slot has the map of
 -- before, or the one with the step
@@ -55,7 +57,7 @@ pub record IsUntouched {R : Type 0} (old new : R) (before after : PoolMap) : Typ
 
 -- no further interval may begin: its epoch would reach the limit, or its text has too little room
 abbrev pub IsWorn : PoolMap → Type 0
-IsWorn map = (epoch_limit ≤ last_epoch map.story.intervals + 1) ⊎ (room_of map.journal < 2 ^ 27)
+IsWorn map = (epoch_limit ≤ last_epoch map.state.intervals + 1) ⊎ (room_of map.journal < 2 ^ 27)
 
 -- the mask of all of n positions
 abbrev pub all_of : ℕ → ℕ
@@ -67,7 +69,7 @@ first_interval n = record { epoch = 1; up = all_of n; alive = Some (all_of n, ze
 
 -- the map of a new pool with this profile
 abbrev pub new_map : Profile → ℕ → PoolImage
-new_map p n = record { profile = p; n = n; format = 1; clean = 1; intervals = first_interval n ∷ []; marks = 0 }
+new_map p n = record { profile = p; n = n; state = with_intervals (new_state map_format) (first_interval n ∷ []) }
 
 -- a map is that of a new pool: its profile is the one that the canonical lines of the given one are read as
 pub record IsNewMap (m : PoolImage) (p : Profile) (k n : ℕ) : Type 0 where

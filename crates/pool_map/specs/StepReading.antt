@@ -2,7 +2,7 @@
 use Rattle.std.specs.Prelude.{ℕ, ◌+◌, ◌*◌, ◌==◌, if◌then◌else◌, None}
 use Rattle.ec_model.specs.Versions.{Version}
 use Rattle.ec_words.specs.Readers.{Reader, and_then, mapped, both, read_byte, read_u32, read_counted, read_version}
-use Rattle.pool_map.specs.Steps.{MapStep, Profile, Begin, Alive, Mark}
+use Rattle.map_model.specs.Steps.{MapStep, Profile, Begin, Alive, Mark}
 
 abbrev pub mask_from : ℕ × ℕ → ℕ
 mask_from p = p.0 * 256 + p.1

@@ -1,17 +1,9 @@
--- The steps of a pool's map, and their bytes. Source: this project. Each number stands with its most significant byte first.
+-- The bytes of the steps of a pool's map. Source: this project. Each number stands with its most significant byte first.
 use Rattle.std.specs.Prelude.{◌<◌, ◌^◌, ℕ, List, [], ◌∷◌, ◌++◌}
 use Rattle.std.specs.List.{flat_map}
 use Rattle.std.specs.Int.{bytes_high_first}
-use Rattle.ec_model.specs.Versions.{Version}
+use Rattle.map_model.specs.Steps.{MapStep, Profile, Begin, Alive, Mark}
 use Rattle.ec_words.specs.Readers.{version_bytes, counted_bytes, IsWord, IsCounted, HasWords}
-
--- the canonical lines of the pool's profile; an interval begins, with the slots that are up; it goes alive, with the slots that
--- joined it and the version that it begins with; an operator marks a slot as down (1) or takes the mark away (0)
-pub data MapStep : Type 0 where
-  Profile : (lines : List ℕ) → MapStep
-  Begin : (epoch up : ℕ) → MapStep
-  Alive : (epoch joined : ℕ) (base : Version) → MapStep
-  Mark : (slot down : ℕ) → MapStep
 
 -- a set of positions in two bytes
 abbrev pub mask_bytes : ℕ → List ℕ

@@ -3,16 +3,17 @@ ghost use Rattle.std.specs.Prelude.{◌≡◌, ◌≢◌, ◌⊎◌, ◌≤◌, 
 ghost use Rattle.ec_code.specs.Profiles.{name_of};
 ghost use Rattle.ec_code.specs.Refusals.{IsCodeOf};
 ghost use Rattle.ec_words.specs.Readers.{IsCounted};
-ghost use Rattle.pool_map.specs.Maps.{PoolImage, Story as Meant, LeadAll, new_story, IsMapOf};
-ghost use Rattle.pool_map.specs.Meanings.{meant, image_of};
+ghost use Rattle.map_model.specs.States.{MapState, new_state};
+ghost use Rattle.pool_map.specs.Maps.{PoolImage, LeadAll, IsMapOf, map_format};
+ghost use Rattle.pool_map.specs.Meanings.{state_of, image_of};
 ghost use Rattle.pool_map.specs.Steps.{step_bytes};
-ghost use Rattle.pool_map.specs.Steps as steps;
+ghost use Rattle.map_model.specs.Steps as steps;
 
 use crate::MapFault;
 use crate::profiles::open_lines;
 use crate::reading::StepReader;
+use crate::state::State;
 use crate::step::Step;
-use crate::story::Story;
 use ec_code::Code;
 use ec_words::Bytes;
 use plugin_reg::Opened;
@@ -45,17 +46,17 @@ fn read_first<'a>(alloc: Global, body: &'a [u8]) -> Result<First<'a>, MapFault>
 }
 
 /// The intervals and marks that the steps behind the profile make.
-fn read_story(alloc: Global, n: u8, rest: &[u8], more: &[Bytes]) -> Result<Story, MapFault>
+fn read_state(alloc: Global, n: u8, rest: &[u8], more: &[Bytes]) -> Result<State, MapFault>
     requires { n ≤ 16 }
-    ensures n { IfOk result (λ story. story.n ≡ n) }
-    ensures ok { IfOk result (λ story. LeadAll n new_story (rest.now ∷ more.now) (meant story)) }
-    ensures bad { result ≡ Err MapFault.BadMap → (other : Meant) → LeadAll n new_story (rest.now ∷ more.now) other → ⊥ }
+    ensures n { IfOk result (λ state. state.n ≡ n) }
+    ensures ok { IfOk result (λ state. LeadAll n (new_state map_format) (rest.now ∷ more.now) (state_of state)) }
+    ensures bad { result ≡ Err MapFault.BadMap → (other : MapState) → LeadAll n (new_state map_format) (rest.now ∷ more.now) other → ⊥ }
     ensures plain { IfErr result (λ fault. (fault ≡ MapFault.BadMap) ⊎ (fault ≡ MapFault.NoMemory)) }
 {
-    let mut story = Story::new(alloc, n);
-    story.add_body(alloc, rest)?;
-    story.add_bodies(alloc, more)?;
-    Ok(story)
+    let mut state = State::new(alloc, n);
+    state.add_body(alloc, rest)?;
+    state.add_bodies(alloc, more)?;
+    Ok(state)
 }
 
 /// The map that some bodies are, and the box that is the code of its profile.
@@ -66,11 +67,11 @@ pub(crate) fn read_map(
     unit: u32,
     bodies: &[Bytes],
     codes: &mut [Box<dyn Code>],
-) -> Result<(Story, Opened), MapFault>
+) -> Result<(State, Opened), MapFault>
     requires { (q : _) → (i : ℕ) × (i < length codes.old) × ((d : _) → plugin_name (slice_index_or codes.old i d) ≡ name_of q) }
-    ensures ok { IfOk result (λ read. IsMapOf k unit bodies.now (image_of read.1.profile read.0)) }
+    ensures ok { IfOk result (λ read. IsMapOf k unit map_format bodies.now (image_of read.1.profile read.0)) }
     ensures n { IfOk result (λ read. read.0.n ≡ n) }
-    ensures bad { result ≡ Err MapFault.BadMap → (m : PoolImage) → m.n ≡ n → IsMapOf k unit bodies.now m → ⊥ }
+    ensures bad { result ≡ Err MapFault.BadMap → (m : PoolImage) → m.n ≡ n → IsMapOf k unit map_format bodies.now m → ⊥ }
     ensures plain { IfErr result (λ fault. (fault ≡ MapFault.BadMap) ⊎ (fault ≡ MapFault.NoMemory)) }
     ensures below { IfOk result (λ read. read.1.index < length codes.new) }
     ensures named { IfOk result (λ read. (d : _) → plugin_name (slice_index_or codes.old read.1.index d) ≡ name_of read.1.profile.plugin) }
@@ -87,6 +88,6 @@ pub(crate) fn read_map(
     }
     let first = read_first(alloc, bodies[0].as_slice())?;
     let opened = open_lines(alloc, first.lines.as_slice(), k, n, unit, codes)?;
-    let story = read_story(alloc, n, first.rest, &bodies[1..])?;
-    Ok((story, opened))
+    let state = read_state(alloc, n, first.rest, &bodies[1..])?;
+    Ok((state, opened))
 }

@@ -6,10 +6,10 @@ ghost use Rattle.ec_code.specs.JsonProfiles.{profile_of_bytes};
 ghost use Rattle.ec_code.specs.Refusals.{IsAccepted, IsCodeOf};
 ghost use Rattle.ec_code.specs.Shapes.{HasShape};
 ghost use Rattle.plugin_reg.specs.Canonical.{IsWritable, canonical_lines};
-ghost use Rattle.pool_map.specs.Maps.{IsMapOf};
+ghost use Rattle.pool_map.specs.Maps.{IsMapOf, map_format};
 ghost use Rattle.pool_map.specs.Pool.{all_of, new_map, IsNewMap};
 ghost use Rattle.pool_map.specs.Steps.{step_bytes};
-ghost use Rattle.pool_map.specs.Steps as steps;
+ghost use Rattle.map_model.specs.Steps as steps;
 
 use crate::MapFault;
 use crate::steps::{alive_bytes, begin_bytes};
@@ -62,7 +62,7 @@ pub(crate) fn first_body(
     requires accepted { IsAccepted profile.now }
     requires writable { IsWritable profile.now }
     requires shape { (code : CodeRows) × IsCodeOf profile.now code × HasShape code shape.k shape.n shape.lead }
-    ensures ok { IfOk result (λ first. IsMapOf shape.k first.profile.stripe_unit (first.body ∷ []) (new_map first.profile shape.n)) }
+    ensures ok { IfOk result (λ first. IsMapOf shape.k first.profile.stripe_unit map_format (first.body ∷ []) (new_map first.profile shape.n)) }
     ensures new { IfOk result (λ first. profile_of_bytes (canonical_lines profile.now shape.k shape.n) ≡ Ok first.profile) }
     ensures some { IfOk result (λ first. 1 ≤ length first.body) }
     ensures short { IfOk result (λ first. length first.body ≤ 4031) }

@@ -1,5 +1,5 @@
 //! Laws about maps, for every caller: functions that do nothing and whose contract is the law.
-ghost use Rattle.pool_map.specs.Laws.{TextsHaveOneMap, MapsAreSound, JoinedSetsLieBelow, AllAreKept, StepsKeepSound, InsideByPositions, MarksAreByPositions, MapsStayHeld, MapsStayElsewhere, MapsStayOver};
+ghost use Rattle.pool_map.specs.Laws.{TextsHaveOneMap, MapsAreSound, JoinedSetsLieBelow, MapsStayHeld, MapsStayElsewhere, MapsStayOver};
 
 use rig_disk::Rig;
 use slot_journal::texts_have_one_reading;
@@ -11,23 +11,10 @@ pub fn texts_have_one_map()
     texts_have_one_reading();
 }
 
-/// The intervals of a map name slots of the pool alone, and their epochs ascend by one from 1; a choice may be made among them,
-/// and all of them are kept.
+/// The intervals of a map name slots of the pool alone, and their epochs ascend by one from 1; a choice may be made among them.
 pub fn maps_are_sound()
     ensures sound { MapsAreSound }
     ensures joined { JoinedSetsLieBelow }
-    ensures kept { AllAreKept }
-{}
-
-/// A step that fits keeps a map sound.
-pub fn steps_keep_sound()
-    ensures { StepsKeepSound }
-{}
-
-/// What lies inside a mask, and what a mark does to one, by positions.
-pub fn masks_are_by_positions()
-    ensures inside { InsideByPositions }
-    ensures marks { MarksAreByPositions }
 {}
 
 /// A map that was held stays so while other slots are worked on.

@@ -21,15 +21,13 @@ mod map;
 mod profiles;
 mod reading;
 mod replay;
+mod state;
 mod step;
 mod steps;
-mod story;
 mod text;
 mod work;
 
 pub use fault::MapFault;
-pub use laws::{
-    maps_are_sound, maps_stay_held, masks_are_by_positions, steps_keep_sound, texts_have_one_map,
-};
+pub use laws::{maps_are_sound, maps_stay_held, texts_have_one_map};
 pub use limits::{BEGIN_ROOM, MAP_SLOT, MARK_ROOM};
 pub use map::PoolMap;

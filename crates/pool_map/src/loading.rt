@@ -67,7 +67,7 @@ impl PoolMap {
         }
         let text = load_text(alloc, rig)?;
         let numbers = text.numbers;
-        let (story, opened) = read_map(
+        let (state, opened) = read_map(
             alloc,
             numbers.k,
             numbers.n,
@@ -78,7 +78,7 @@ impl PoolMap {
         let map = PoolMap {
             journal: text.journal,
             profile: opened.profile,
-            story,
+            state,
             began: false,
         };
         Ok((map, opened.index))

@@ -16,7 +16,7 @@ use crate::MapFault;
 use crate::first::{all_of, first_body};
 use crate::limits::MAP_SLOT;
 use crate::map::PoolMap;
-use crate::story::Story;
+use crate::state::State;
 use crate::text::{Numbers, map_head};
 use ec_code::{Profile, Shape};
 use ec_words::{Interval, Intervals, Mask, NoMemory, Version};
@@ -81,7 +81,7 @@ impl PoolMap {
         Ok(PoolMap {
             journal,
             profile: first.profile,
-            story: Story {
+            state: State {
                 n: shape.n,
                 intervals,
                 marked: Mask(0),

@@ -1,10 +1,10 @@
 //! The map of a pool, as it is worked with.
 ghost use Rattle.std.specs.Prelude.{◌≡◌, ◌≤◌, true};
 ghost use Rattle.slot_journal.specs.Journal.{slot_of, room_of};
-ghost use Rattle.pool_map.specs.Meanings.{meant};
-ghost use Rattle.pool_map.specs.Sound.{IsSound};
+ghost use Rattle.pool_map.specs.Meanings.{state_of};
+ghost use Rattle.map_model.specs.Sound.{IsSound};
 
-use crate::story::Story;
+use crate::state::State;
 use ec_code::Profile;
 use slot_journal::Journal;
 
@@ -14,10 +14,10 @@ use slot_journal::Journal;
 pub struct PoolMap {
     pub(crate) journal: Journal,
     pub(crate) profile: Profile,
-    pub(crate) story: Story,
+    pub(crate) state: State,
     /// The last interval was begun by this value, and is not alive.
     pub(crate) began: bool,
     ghost own_slot: { slot_of journal ≡ 16 },
     ghost has_room: { began ≡ true → 64 ≤ room_of journal },
-    ghost sound: { IsSound story.n (meant story) },
+    ghost sound: { IsSound state.n (state_of state) },
 }

@@ -1,13 +1,14 @@
 //! Steps, done on the intervals and marks of a map.
 ghost use Rattle.std.specs.Prelude.{◌≡◌, ◌⊎◌, ◌≤◌, ◌+◌, [], ℕ, List, true, false, IfErr, OnOk, Err, not, is_some};
-ghost use Rattle.pool_map.specs.Maps.{Story as Meant, Leads, LeadAll, last_of, last_epoch, fits, may_join, with_mark, is_inside, story_after};
-ghost use Rattle.pool_map.specs.Meanings.{step_of, meant};
-ghost use Rattle.pool_map.specs.Steps as steps;
+ghost use Rattle.map_model.specs.States.{MapState, last_of, last_epoch, fits, may_join, with_mark, is_inside, state_after, new_state};
+ghost use Rattle.pool_map.specs.Maps.{Leads, LeadAll, map_format};
+ghost use Rattle.pool_map.specs.Meanings.{step_of, state_of};
+ghost use Rattle.map_model.specs.Steps as steps;
 
 use crate::MapFault;
 use crate::reading::StepReader;
+use crate::state::State;
 use crate::step::Step;
-use crate::story::Story;
 use ec_words::{Bytes, Interval, Intervals, Mask, Version};
 use std::alloc::Global;
 
@@ -73,13 +74,13 @@ pub(crate) fn with_mark(slot: u8, down: u8, marked: Mask) -> Mask
     }
 }
 
-impl Story {
-    pub fn new(alloc: Global, n: u8) -> Story
+impl State {
+    pub fn new(alloc: Global, n: u8) -> State
         requires { n ≤ 16 }
         ensures n { result.n ≡ n }
-        ensures new { meant result ≡ record { intervals = []; marks = 0 } }
+        ensures new { state_of result ≡ new_state map_format }
     {
-        Story {
+        State {
             n,
             intervals: Intervals::new(alloc),
             marked: Mask(0),
@@ -88,7 +89,7 @@ impl Story {
 
     /// Whether a step fits behind these.
     pub fn fits(&self, step: &Step) -> bool
-        ensures { result ≡ fits self.now.n (meant self.now) (step_of step.now) }
+        ensures { result ≡ fits self.now.n (state_of self.now) (step_of step.now) }
     {
         match step {
             Step::Profile(_) => false,
@@ -102,7 +103,7 @@ impl Story {
 
     /// Whether an interval may begin.
     fn may_begin(&self, epoch: u32, up: Mask) -> bool
-        ensures { result ≡ fits self.now.n (meant self.now) (steps.Begin epoch up.0) }
+        ensures { result ≡ fits self.now.n (state_of self.now) (steps.Begin epoch up.0) }
     {
         let last = last_epoch(self.intervals.as_slice());
         u64::from(epoch) == u64::from(last) + 1 && epoch < u32::MAX && up.lies_below(self.n)
@@ -110,8 +111,8 @@ impl Story {
 
     /// Adds a step that fits.
     fn add(&mut self, step: &Step) -> Result<(), MapFault>
-        requires { fits self.old.n (meant self.old) (step_of step.now) ≡ true }
-        ensures ok { OnOk result (meant self.new ≡ story_after (meant self.old) (step_of step.now)) }
+        requires { fits self.old.n (state_of self.old) (step_of step.now) ≡ true }
+        ensures ok { OnOk result (state_of self.new ≡ state_after (state_of self.old) (step_of step.now)) }
         ensures n { self.new.n ≡ self.old.n }
         ensures plain { IfErr result (λ fault. fault ≡ MapFault.NoMemory) }
     {
@@ -132,9 +133,9 @@ impl Story {
 
     /// Adds a step, where it fits.
     fn apply(&mut self, step: &Step) -> Result<(), MapFault>
-        ensures fit { OnOk result (fits self.old.n (meant self.old) (step_of step.now) ≡ true) }
-        ensures ok { OnOk result (meant self.new ≡ story_after (meant self.old) (step_of step.now)) }
-        ensures bad { result ≡ Err MapFault.BadMap → fits self.old.n (meant self.old) (step_of step.now) ≡ false }
+        ensures fit { OnOk result (fits self.old.n (state_of self.old) (step_of step.now) ≡ true) }
+        ensures ok { OnOk result (state_of self.new ≡ state_after (state_of self.old) (step_of step.now)) }
+        ensures bad { result ≡ Err MapFault.BadMap → fits self.old.n (state_of self.old) (step_of step.now) ≡ false }
         ensures n { self.new.n ≡ self.old.n }
         ensures plain { IfErr result (λ fault. (fault ≡ MapFault.BadMap) ⊎ (fault ≡ MapFault.NoMemory)) }
     {
@@ -146,10 +147,10 @@ impl Story {
 
     /// Adds the steps of a body.
     pub fn add_body(&mut self, alloc: Global, body: &[u8]) -> Result<(), MapFault>
-        ensures ok { OnOk result (Leads self.old.n (meant self.old) body.now (meant self.new)) }
-        ensures only { OnOk result ((other : Meant) → Leads self.old.n (meant self.old) body.now other
-            → other ≡ meant self.new) }
-        ensures bad { result ≡ Err MapFault.BadMap → (other : Meant) → Leads self.old.n (meant self.old) body.now other → ⊥ }
+        ensures ok { OnOk result (Leads self.old.n (state_of self.old) body.now (state_of self.new)) }
+        ensures only { OnOk result ((other : MapState) → Leads self.old.n (state_of self.old) body.now other
+            → other ≡ state_of self.new) }
+        ensures bad { result ≡ Err MapFault.BadMap → (other : MapState) → Leads self.old.n (state_of self.old) body.now other → ⊥ }
         ensures n { self.new.n ≡ self.old.n }
         ensures plain { IfErr result (λ fault. (fault ≡ MapFault.BadMap) ⊎ (fault ≡ MapFault.NoMemory)) }
     {
@@ -163,10 +164,10 @@ impl Story {
 
     /// Adds the steps of some bodies.
     pub fn add_bodies(&mut self, alloc: Global, bodies: &[Bytes]) -> Result<(), MapFault>
-        ensures ok { OnOk result (LeadAll self.old.n (meant self.old) bodies.now (meant self.new)) }
-        ensures only { OnOk result ((other : Meant) → LeadAll self.old.n (meant self.old) bodies.now other
-            → other ≡ meant self.new) }
-        ensures bad { result ≡ Err MapFault.BadMap → (other : Meant) → LeadAll self.old.n (meant self.old) bodies.now other → ⊥ }
+        ensures ok { OnOk result (LeadAll self.old.n (state_of self.old) bodies.now (state_of self.new)) }
+        ensures only { OnOk result ((other : MapState) → LeadAll self.old.n (state_of self.old) bodies.now other
+            → other ≡ state_of self.new) }
+        ensures bad { result ≡ Err MapFault.BadMap → (other : MapState) → LeadAll self.old.n (state_of self.old) bodies.now other → ⊥ }
         ensures n { self.new.n ≡ self.old.n }
         ensures plain { IfErr result (λ fault. (fault ≡ MapFault.BadMap) ⊎ (fault ≡ MapFault.NoMemory)) }
     {

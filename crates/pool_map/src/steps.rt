@@ -1,7 +1,7 @@
 //! The bytes of steps that a map writes.
 ghost use Rattle.std.specs.Prelude.{◌≡◌, if◌then◌else◌};
 ghost use Rattle.pool_map.specs.Steps.{step_bytes};
-ghost use Rattle.pool_map.specs.Steps as steps;
+ghost use Rattle.map_model.specs.Steps as steps;
 
 use byteorder::{BigEndian, ByteOrder};
 use ec_words::{Mask, Version};

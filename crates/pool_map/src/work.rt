@@ -7,10 +7,10 @@ ghost use Rattle.rig_disk.specs.Frame.{Spends, KeepsOthers};
 ghost use Rattle.slot_journal.specs.Journal.{IsSettledWhereTold, InSlot, is_spent, room_of};
 ghost use Rattle.slot_journal.specs.Limits.{commit_syncs};
 ghost use Rattle.pool_map.specs.Faults.{HasMapCause};
-ghost use Rattle.pool_map.specs.Maps.{fits, story_of, last_epoch, epoch_limit};
+ghost use Rattle.map_model.specs.States.{fits, kept, last_epoch, epoch_limit};
 ghost use Rattle.pool_map.specs.Pool.{journal_of, map_of, has_begun, HoldsMap, map_after, Steps, IsWorn, IsUntouched};
-ghost use Rattle.pool_map.specs.Sound.{IsSound};
-ghost use Rattle.pool_map.specs.Steps as steps;
+ghost use Rattle.map_model.specs.Sound.{IsSound};
+ghost use Rattle.map_model.specs.Steps as steps;
 ghost use Rattle.ec_words.specs.Intervals.{Interval as Meant};
 
 use crate::map::PoolMap;
@@ -29,21 +29,21 @@ impl PoolMap {
         &self.profile
     }
 
-    /// The intervals so far, among which a choice may be made.
+    /// The kept intervals, among which a choice may be made.
     pub fn intervals(&self) -> &Intervals
-        ensures value { result.now ≡ (map_of self.now).intervals }
-        ensures sound { IsSound (map_of self.now).n (story_of (map_of self.now)) }
+        ensures value { result.now ≡ kept (map_of self.now).state }
+        ensures sound { IsSound (map_of self.now).n (map_of self.now).state }
         ensures joined { JoinedLieBelow (map_of self.now).n result.now }
     {
-        &self.story.intervals
+        &self.state.intervals
     }
 
     /// The slots that are marked as down.
     pub fn marked(&self) -> Mask
-        ensures value { result.0 ≡ (map_of self.now).marks }
+        ensures value { result.0 ≡ (map_of self.now).state.marks }
         ensures below { LiesBelow (map_of self.now).n result.0 }
     {
-        self.story.marked
+        self.state.marked
     }
 
     /// Begins an interval with these slots up, and answers its epoch.
@@ -53,9 +53,9 @@ impl PoolMap {
         requires settled { IsSettledWhereTold (R.reads rig.old) (R.images rig.old (R.clock rig.old)) (journal_of self.old) }
         requires below { up.0 < 2 ^ (map_of self.old).n }
 
-        ensures epoch { IfOk result (λ epoch. epoch ≡ last_epoch (map_of self.old).intervals + 1) }
+        ensures epoch { IfOk result (λ epoch. epoch ≡ last_epoch (map_of self.old).state.intervals + 1) }
         ensures step { OnOk result (map_of self.new ≡ map_after (map_of self.old)
-            (steps.Begin (last_epoch (map_of self.old).intervals + 1) up.0)) }
+            (steps.Begin (last_epoch (map_of self.old).state.intervals + 1) up.0)) }
         ensures began { OnOk result (has_begun self.new ≡ true) }
         ensures worn { (result ≡ Err MapFault.Worn) ↔ IsWorn self.old }
         ensures faults { IfErr result (λ fault. (fault ≡ MapFault.Failed) ⊎ ((fault ≡ MapFault.Worn) ⊎ (fault ≡ MapFault.NoMemory))) }
@@ -71,17 +71,17 @@ impl PoolMap {
         ensures only_if_fault { HasMapCause (R.faults rig.old 16) (R.faults rig.new 16) result }
         ensures any_moment { During R.clock R.images rig.old rig.new (InSlot (R.images rig.old (R.clock rig.old)) 16
             (Steps (R.reads rig.old) (R.images rig.old (R.clock rig.old)) (journal_of self.old) (map_of self.old)
-            (steps.Begin (last_epoch (map_of self.old).intervals + 1) up.0))) }
+            (steps.Begin (last_epoch (map_of self.old).state.intervals + 1) up.0))) }
         ensures counts { Spends R.syncs R.bytes_written R.bytes_read 16 commit_syncs 13 0 rig.old rig.new }
         ensures kept { KeepsOthers R.is_here R.reads R.said R.faults R.syncs R.bytes_written R.bytes_read
             16 0 rig.old rig.new }
     {
-        let last = last_epoch(self.story.intervals.as_slice());
+        let last = last_epoch(self.state.intervals.as_slice());
         if is_worn(last, self.journal.room()) {
             return Err(MapFault::Worn);
         }
         let epoch = last + 1;
-        self.story.intervals.push(Interval {
+        self.state.intervals.push(Interval {
             epoch,
             up,
             alive: None,
@@ -92,7 +92,7 @@ impl PoolMap {
                 Ok(epoch)
             }
             Err(_) => {
-                take_back(&mut self.story.intervals);
+                take_back(&mut self.state.intervals);
                 Err(MapFault::Failed)
             }
         }
@@ -109,15 +109,15 @@ impl PoolMap {
         requires unspent { is_spent (journal_of self.old) ≡ false }
         requires settled { IsSettledWhereTold (R.reads rig.old) (R.images rig.old (R.clock rig.old)) (journal_of self.old) }
         requires began { has_begun self.old ≡ true }
-        requires fits { fits (map_of self.old).n (story_of (map_of self.old))
-            (steps.Alive (last_epoch (map_of self.old).intervals) joined.0 base) ≡ true }
+        requires fits { fits (map_of self.old).n (map_of self.old).state
+            (steps.Alive (last_epoch (map_of self.old).state.intervals) joined.0 base) ≡ true }
 
         ensures ok { OnOk result ((text : List ℕ)
             → HoldsMap (R.reads rig.old) (R.images rig.old (R.clock rig.old)) (journal_of self.old) (map_of self.old) text
             → (after : List ℕ) × HoldsMap (R.reads rig.new) (R.images rig.new (R.clock rig.new)) (journal_of self.new)
             (map_of self.new) after) }
         ensures step { OnOk result (map_of self.new
-            ≡ map_after (map_of self.old) (steps.Alive (last_epoch (map_of self.old).intervals) joined.0 base)) }
+            ≡ map_after (map_of self.old) (steps.Alive (last_epoch (map_of self.old).state.intervals) joined.0 base)) }
         ensures settled { OnOk result
             (IsSettledWhereTold (R.reads rig.new) (R.images rig.new (R.clock rig.new)) (journal_of self.new)) }
         ensures unspent { OnOk result (is_spent (journal_of self.new) ≡ false) }
@@ -126,15 +126,15 @@ impl PoolMap {
         ensures only_if_fault { HasMapCause (R.faults rig.old 16) (R.faults rig.new 16) result }
         ensures any_moment { During R.clock R.images rig.old rig.new (InSlot (R.images rig.old (R.clock rig.old)) 16
             (Steps (R.reads rig.old) (R.images rig.old (R.clock rig.old)) (journal_of self.old) (map_of self.old)
-            (steps.Alive (last_epoch (map_of self.old).intervals) joined.0 base))) }
+            (steps.Alive (last_epoch (map_of self.old).state.intervals) joined.0 base))) }
         ensures counts { Spends R.syncs R.bytes_written R.bytes_read 16 commit_syncs 25 0 rig.old rig.new }
         ensures kept { KeepsOthers R.is_here R.reads R.said R.faults R.syncs R.bytes_written R.bytes_read
             16 0 rig.old rig.new }
     {
-        let epoch = last_epoch(self.story.intervals.as_slice());
+        let epoch = last_epoch(self.state.intervals.as_slice());
         self.journal
             .commit(rig, &alive_bytes(epoch, joined, &base))?;
-        self.story.intervals.set_last_alive(joined, base);
+        self.state.intervals.set_last_alive(joined, base);
         self.began = false;
         Ok(())
     }
@@ -173,7 +173,7 @@ impl PoolMap {
         }
         let byte = down_byte(down);
         self.journal.commit(rig, &mark_bytes(slot, byte))?;
-        self.story.marked = with_mark(slot, byte, self.story.marked);
+        self.state.marked = with_mark(slot, byte, self.state.marked);
         Ok(())
     }
 }

@@ -1,6 +1,7 @@
 use Rattle.std.proofs.Common.{◌++◌, ap, sym, ◌∙◌, Some}
 use Rattle.pool_map.specs.Meanings.{step_of}
-use Rattle.pool_map.specs.Steps.{Profile, step_bytes}
+use Rattle.map_model.specs.Steps.{Profile}
+use Rattle.pool_map.specs.Steps.{step_bytes}
 use Rattle.pool_map.specs.StepReading.{read_step}
 use Rattle.pool_map.proofs.BodyLemmas.{all_bytes, first_counted, first_bytes}
 use Rattle.pool_map.proofs.bodies.read_first.Goals as goal

@@ -1,5 +1,5 @@
 use Rattle.std.proofs.Common.{◌∙◌, sym}
-use Rattle.pool_map.proofs.StoryLemmas.{last_is}
+use Rattle.map_model.proofs.LastLemmas.{last_is}
 use Rattle.pool_map.proofs.replay.last_of.Goals as goal
 
 pub returns : goal.returns

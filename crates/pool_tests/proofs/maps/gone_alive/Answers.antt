@@ -1,12 +1,13 @@
 use Rattle.std.proofs.Common.{◌≡◌, ◌+◌, true, refl, sym, subst, arith}
-use Rattle.pool_map.specs.Maps.{PoolImage, fits, story_of, last_epoch}
+use Rattle.map_model.specs.States.{fits, last_epoch}
+use Rattle.pool_map.specs.Maps.{PoolImage}
 use Rattle.pool_map.specs.Pool.{map_of}
-use Rattle.pool_map.specs.Steps.{Alive}
+use Rattle.map_model.specs.Steps.{Alive}
 use Rattle.pool_map.proofs.CallerLemmas.{begun_may_join}
 use Rattle.pool_tests.proofs.maps.gone_alive.Goals as goal
 
 pub alive-requires-clause-fits : goal.alive-requires-clause-fits
 alive-requires-clause-fits g c =
     let old = map_of c.args.map.now in
-    subst (λ (m : PoolImage). fits m.n (story_of m) (Alive (last_epoch m.intervals) 1 (record { epoch = 1; seq = 5 })) ≡ true) (sym c.in_ok-begin.ensures.step)
-    (begun_may_join old.intervals (last_epoch old.intervals + 1) 3 1 refl (omega arith))
+    subst (λ (m : PoolImage). fits m.n m.state (Alive (last_epoch m.state.intervals) 1 (record { epoch = 1; seq = 5 })) ≡ true) (sym c.in_ok-begin.ensures.step)
+    (begun_may_join old.state.intervals (last_epoch old.state.intervals + 1) 3 1 refl (omega arith))

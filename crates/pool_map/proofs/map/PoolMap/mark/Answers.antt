@@ -1,13 +1,15 @@
 use Rattle.std.proofs.Common.{rules, inr, refl, ◌≡◌, ℕ, List, if◌then◌else◌, ap, sym, subst, ◌∙◌}
 use Rattle.rig_disk.specs.During.{During}
 use Rattle.slot_journal.specs.Journal.{InSlot}
-use Rattle.pool_map.specs.Meanings.{meant}
-use Rattle.pool_map.specs.Sound.{IsSound}
-use Rattle.pool_map.specs.Maps.{story_of, with_mark, with_story}
+use Rattle.pool_map.specs.Meanings.{state_of}
+use Rattle.map_model.specs.Sound.{IsSound}
+use Rattle.map_model.specs.States.{with_intervals, with_marks, with_mark}
+use Rattle.pool_map.specs.Maps.{with_state}
 use Rattle.pool_map.specs.Pool.{journal_of, map_of, HoldsMap, Steps}
-use Rattle.pool_map.specs.Steps.{Mark, step_bytes, IsWritable}
+use Rattle.map_model.specs.Steps.{Mark}
+use Rattle.pool_map.specs.Steps.{step_bytes, IsWritable}
 use Rattle.pool_map.proofs.WorkLemmas.{held_on, step_moments, unmoved, mark_fits}
-use Rattle.pool_map.proofs.SoundLemmas.{step_sound}
+use Rattle.map_model.proofs.SoundLemmas.{step_sound}
 use Rattle.pool_map.proofs.map.PoolMap.mark.Goals as goal
 
 pub returns-then-room-lt-MARK_ROOM-clause-any_moment : goal.returns-then-room-lt-MARK_ROOM-clause-any_moment
@@ -22,7 +24,7 @@ returns-in_err-commit-clause-any_moment g c =
     let writable : IsWritable s = search rules in
     subst (λ slot. During g.R.Rig.clock g.R.Rig.images c.args.rig.now c.commit.new.rig (InSlot images slot (Steps (g.R.Rig.reads c.args.rig.now) images (journal_of c.args.self.now) m s)))
     c.args.self.now.own_slot
-    (step_moments m s c.mark_bytes.result body writable (mark_fits m.n (story_of m) c.args.slot c.args.down c.requires.slot) g.R.Rig.clock g.R.Rig.images (g.R.Rig.reads c.args.rig.now) c.args.self.now.journal _
+    (step_moments m s c.mark_bytes.result body writable (mark_fits m.n m.state c.args.slot c.args.down c.requires.slot) g.R.Rig.clock g.R.Rig.images (g.R.Rig.reads c.args.rig.now) c.args.self.now.journal _
     c.args.rig.now c.commit.new.rig c.commit.ensures.any_moment)
 
 pub returns-clause-ok : goal.returns-clause-ok
@@ -33,9 +35,9 @@ returns-clause-ok g c = λ text held.
     let body : c.mark_bytes.result ≡ step_bytes s = c.mark_bytes.ensures ∙ ap (λ d. step_bytes (Mark c.args.slot d)) c.down_byte-byte.ensures in
     let writable : IsWritable s = search rules in
     subst (λ (x : ℕ). (after : List ℕ) × HoldsMap (g.R.Rig.reads c.commit.new.rig) (g.R.Rig.images c.commit.new.rig (g.R.Rig.clock c.commit.new.rig)) c.commit.new.self
-    (with_story m (record { intervals = m.intervals; marks = x })) after)
-    (ap (λ d. with_mark c.args.slot d c.args.self.now.story.marked.0) (sym c.down_byte-byte.ensures) ∙ sym c.with_mark-self.ensures)
-    (held_on m s c.mark_bytes.result body writable (mark_fits m.n (story_of m) c.args.slot c.args.down c.requires.slot) (g.R.Rig.reads c.args.rig.now) images c.args.self.now.journal
+    (with_state m (with_marks m.state x)) after)
+    (ap (λ d. with_mark c.args.slot d c.args.self.now.state.marked.0) (sym c.down_byte-byte.ensures) ∙ sym c.with_mark-self.ensures)
+    (held_on m s c.mark_bytes.result body writable (mark_fits m.n m.state c.args.slot c.args.down c.requires.slot) (g.R.Rig.reads c.args.rig.now) images c.args.self.now.journal
     (g.R.Rig.reads c.commit.new.rig) (g.R.Rig.images c.commit.new.rig (g.R.Rig.clock c.commit.new.rig)) c.commit.new.self c.in_ok-commit.ensures.ok text held)
 
 pub returns-clause-any_moment : goal.returns-clause-any_moment
@@ -47,15 +49,15 @@ returns-clause-any_moment g c =
     let writable : IsWritable s = search rules in
     subst (λ slot. During g.R.Rig.clock g.R.Rig.images c.args.rig.now c.commit.new.rig (InSlot images slot (Steps (g.R.Rig.reads c.args.rig.now) images (journal_of c.args.self.now) m s)))
     c.args.self.now.own_slot
-    (step_moments m s c.mark_bytes.result body writable (mark_fits m.n (story_of m) c.args.slot c.args.down c.requires.slot) g.R.Rig.clock g.R.Rig.images (g.R.Rig.reads c.args.rig.now) c.args.self.now.journal _
+    (step_moments m s c.mark_bytes.result body writable (mark_fits m.n m.state c.args.slot c.args.down c.requires.slot) g.R.Rig.clock g.R.Rig.images (g.R.Rig.reads c.args.rig.now) c.args.self.now.journal _
     c.args.rig.now c.commit.new.rig c.commit.ensures.any_moment)
 
 pub invariant_of-self-3-clause-sound : goal.invariant_of-self-3-clause-sound
 invariant_of-self-3-clause-sound g c =
-    let story = c.args.self.now.story in
-    subst (λ (x : ℕ). IsSound story.n (record { intervals = story.intervals; marks = x }))
-    (ap (λ d. with_mark c.args.slot d story.marked.0) (sym c.down_byte-byte.ensures) ∙ sym c.with_mark-self.ensures)
-    (step_sound story.n (meant story) (Mark c.args.slot (if c.args.down then 1 else 0)) c.args.self.now.sound (mark_fits story.n (meant story) c.args.slot c.args.down c.requires.slot))
+    let state = c.args.self.now.state in
+    subst (λ (x : ℕ). IsSound state.n (with_marks (state_of state) x))
+    (ap (λ d. with_mark c.args.slot d state.marked.0) (sym c.down_byte-byte.ensures) ∙ sym c.with_mark-self.ensures)
+    (step_sound state.n (state_of state) (Mark c.args.slot (if c.args.down then 1 else 0)) c.args.self.now.sound (mark_fits state.n (state_of state) c.args.slot c.args.down c.requires.slot))
 
 pub returns-then-room-lt-MARK_ROOM-clause-refused : goal.returns-then-room-lt-MARK_ROOM-clause-refused
 returns-then-room-lt-MARK_ROOM-clause-refused g c = inr (record { rig = refl; journal = refl; began = refl })

@@ -6,8 +6,8 @@ use Rattle.std.proofs.lemmas.Bool.Decides.{nat_tests}
 use Rattle.std.proofs.lemmas.Nat.Bits.{bit_at-lt, bit_at_and, bit_at_or, bit_at_xor, bit_at-pow_same, bit_at-pow_other}
 use Rattle.ec_model.specs.Codes.{HasPosition}
 use Rattle.ec_words.proofs.SetLemmas.{inside_by as inside_of}
-use Rattle.pool_map.specs.Laws.{MarksByPositions}
-use Rattle.pool_map.specs.Maps.{is_inside, with_mark}
+use Rattle.map_model.specs.Laws.{MarksByPositions}
+use Rattle.map_model.specs.States.{is_inside, with_mark}
 
 -- a position of what two masks share is one of the second
 in_second : (mask other p : ℕ) → HasPosition (bit_and mask other) p → HasPosition other p

@@ -5,7 +5,7 @@ use ec_words::{Intervals, Mask};
 
 /// The intervals and marks of the map of a pool with `n` positions.
 #[derive(Drop)]
-pub(crate) struct Story {
+pub(crate) struct State {
     pub n: u8,
     pub intervals: Intervals,
     pub marked: Mask,

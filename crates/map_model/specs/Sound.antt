@@ -3,17 +3,18 @@ use Rattle.std.specs.Prelude.{◌≡◌, ◌<◌, ◌+◌, ℕ, true, slice_get,
 use Rattle.ec_model.specs.Codes.{LiesBelow}
 use Rattle.ec_model.specs.Versions.{Version}
 use Rattle.ec_words.specs.Intervals.{Interval}
-use Rattle.pool_map.specs.Maps.{Story, is_inside}
+use Rattle.map_model.specs.States.{MapState, is_inside, epoch_limit}
 
--- an interval of a pool of n positions: the slots that are up lie below n, and where it went alive, some of them joined it and
--- no others did
+-- an interval of a pool of n positions: its epoch is below the limit, the slots that are up lie below n, and if it went alive, some
+-- of them joined it and no others did
 pub record IsOfPool (n : ℕ) (interval : Interval) : Type 0 where
+  pub early : interval.epoch < epoch_limit
   pub up : LiesBelow n interval.up
   pub some : (joined : ℕ) (base : Version) → interval.alive ≡ Some (joined, base) → 0 < joined
   pub inside : (joined : ℕ) (base : Version) → interval.alive ≡ Some (joined, base) → is_inside joined interval.up ≡ true
 
 -- the intervals and the marks of a pool of n positions: the epochs ascend by one from 1, and the marks lie below n
-pub record IsSound (n : ℕ) (story : Story) : Type 0 where
-  pub each : (i : ℕ) (interval : Interval) → slice_get story.intervals i ≡ Some interval → IsOfPool n interval
-  pub dated : (i : ℕ) (interval : Interval) → slice_get story.intervals i ≡ Some interval → interval.epoch ≡ i + 1
-  pub marked : LiesBelow n story.marks
+pub record IsSound (n : ℕ) (state : MapState) : Type 0 where
+  pub each : (i : ℕ) (interval : Interval) → slice_get state.intervals i ≡ Some interval → IsOfPool n interval
+  pub dated : (i : ℕ) (interval : Interval) → slice_get state.intervals i ≡ Some interval → interval.epoch ≡ i + 1
+  pub marked : LiesBelow n state.marks

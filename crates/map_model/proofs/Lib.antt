@@ -1,0 +1,5 @@
+pub mod LastLemmas
+pub mod KeptLemmas
+pub mod PositionLemmas
+pub mod ReplayLemmas
+pub mod SoundLemmas
