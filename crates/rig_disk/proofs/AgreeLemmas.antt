@@ -76,6 +76,6 @@ module _ (first disk : Pair) (calls : List Call) (said : List ℕ) (agrees : Agr
     sound = AreSound-push calls (Say bytes) (image_of first) agrees.sound tt tt;
   }
 
-  -- where a write fits what reads give, it fits what is kept
+  -- if a write fits what reads give, it fits what is kept
   pub fits_too : (slot area at : ℕ) (seen : Log) → log_of first calls ≡ seen → at ≤ length (log_disk seen slot area) → at ≤ length (image_of disk slot area)
   fits_too slot area at seen is fits = subst (λ n. at ≤ n) (sym (ap length (agrees.reads slot area) ∙ ap (λ l. length (log_disk l slot area)) is)) fits

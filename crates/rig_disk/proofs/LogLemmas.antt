@@ -86,7 +86,7 @@ module _ (log : Log) (call : Call) where
         (cases_lt (log_clock log) t);
   }
 
-  -- where it says nothing, what was said is as before
+  -- if it says nothing, what was said is as before
   pub quiet : said_after (call ∷ []) ≡ [] → said_after (log.calls ++ call ∷ []) ≡ said_after log.calls
   quiet nothing = said-push log.calls call ∙ ap (λ (l : List ℕ). said_after log.calls ++ l) nothing ∙ append-nil (said_after log.calls)
 

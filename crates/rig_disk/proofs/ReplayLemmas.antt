@@ -21,7 +21,7 @@ put_is old new slot area bytes here others = λ i s a. each s a i
       | inr other ↦ others s a other ∙ sym (put_other slot area bytes old s a other)
     ]
 
--- each call is sound where it comes
+-- each call is sound when it comes
 pub sound_at : (calls : List Call) (disk : Image) (i : ℕ) (d : Call) → AreSound calls disk → i < length calls → IsWithin (get_or calls i d) × IsFitting (get_or calls i d) (disk_after (take i calls) disk)
 sound_at [] disk i d sound inside = absurd (omega (arith, inside))
 sound_at (call ∷ calls) disk zero d sound inside = (sound.0, sound.1)

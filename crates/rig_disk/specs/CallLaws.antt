@@ -102,6 +102,6 @@ log_as_read log = (
   λ s a there told. some_same _ _ told,
 )
 
--- where nothing was called, every image is what reads give
+-- if nothing was called, every image is what reads give
 pub uncalled : (log : Log) (image : Image) (text : List ℕ) → log.calls ≡ [] → ImagesAt log (log_clock log) image text → (s a : ℕ) → image s a ≡ log_disk log s a
 uncalled log image text none now s a = subst (λ cs. leaves cs (image_of log.first) (Same (image_of log.first)) image → image s a ≡ disk_after cs (image_of log.first) s a) (sym none) (λ left. left s a) (left_now log image text now)

@@ -31,7 +31,7 @@ IsFitting (Shorten s a len) disk = Unit {0}
 IsFitting (Sync s a) disk = Unit {0}
 IsFitting (Say bytes) disk = Unit {0}
 
--- each of these calls is sound where it comes
+-- each of these calls is sound when it comes
 abbrev pub AreSound : List Call → Image → Type 0
 AreSound [] disk = Unit {0}
 AreSound (call ∷ calls) disk = IsWithin call × IsFitting call disk × AreSound calls (after call disk)
@@ -43,7 +43,7 @@ pub record Stepped (images : Image → Type 0) (slot area : ℕ) (step : List �
   pub others : (s a : ℕ) → IsOther slot area s a → image s a ≡ source s a
   pub stepped : step (source slot area) (image slot area)
 
--- what a crash may leave from the beginning of a call on, where reads gave `disk` and a crash might have left P before it:
+-- what a crash may leave from the beginning of a call on, if reads gave `disk` and a crash might have left P before it:
 -- a write and a cut may be torn, and a sync pins the area to what a read gives
 abbrev pub may_leave : Call → Image → (Image → Type 0) → Image → Type 0
 may_leave (Write s a at bytes) disk P image = Stepped P s a (Torn (min at (length (disk s a))) (length bytes)) image
@@ -90,13 +90,13 @@ pub record IsSaid (finished begun : List Call) (text : List ℕ) : Type 0 where
   pub whole : length (said_after finished) ≤ count
   pub said : text ≡ take count (said_after begun)
 
--- by an instant so many calls were begun and so many finished; a crash leaves what the begun ones may leave
+-- by an instant some first calls were finished, and the same or one more begun; a crash leaves what the begun ones may leave
 pub record ImagesAt (log : Log) (t : ℕ) (image : Image) (text : List ℕ) : Type 0 where
   pub reached : t ≤ log_clock log
   pub left : leaves (take ((t + 1) / 2) log.calls) (image_of log.first) (Same (image_of log.first)) image
   pub spoken : IsSaid (take (t / 2) log.calls) (take ((t + 1) / 2) log.calls) text
 
--- what is kept besides is what the calls make
+-- the bytes that are kept beside the calls are what the calls make
 pub record Agrees (first disk : Pair) (calls : List Call) (said : List ℕ) : Type 0 where
   pub reads : (s a : ℕ) → image_of disk s a ≡ disk_after calls (image_of first) s a
   pub spoken : said ≡ said_after calls

@@ -8,7 +8,7 @@ use Rattle.rig_disk.specs.declared.call.Call.TheVariants.{Write, Shorten, Sync, 
 use Rattle.rig_disk.specs.declared.crash.Pick.{Pick}
 use Rattle.rig_disk.specs.declared.crash.Pick.TheVariants.{Synced, Marked, Shortest}
 
--- what a pick leaves after a call, where it left `image` before it and reads give `disk` after it:
+-- what a pick leaves after a call, if it left `image` before it and reads give `disk` after it:
 -- the bytes of the last sync; those written, each 0xff where it was written since; the front of what reads give that is no
 -- longer than any length since
 abbrev pub picked_step : Pick → Call → Image → Image → Image

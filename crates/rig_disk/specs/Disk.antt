@@ -1,15 +1,15 @@
 -- What calls do to an area, and what a crash may make of it between two syncs. Source: this project.
 use Rattle.std.specs.Prelude.{◌≡◌, ◌≢◌, ◌⊎◌, ◌≤◌, ℕ, ◌+◌, max, min, List, ◌++◌, length, take, drop, Option, None, Some}
 
--- the slots as a crash may leave them: the bytes of each slot's each area
+-- the slots as a crash may leave them: the bytes of each area of each slot
 abbrev pub Image : Type 0
 Image = ℕ → ℕ → List ℕ
 
--- the second area, of slot s, is not the first
+-- area `a` of slot `s` is another one than area `area` of slot `slot`
 abbrev pub IsOther : ℕ → ℕ → ℕ → ℕ → Type 0
 IsOther slot area s a = (s ≢ slot) ⊎ (a ≢ area)
 
--- what is told of an area after a change, where it was told before
+-- what is told of an area after a change, if it was told before
 abbrev pub on_told : (List ℕ → List ℕ) → Option (List ℕ) → Option (List ℕ)
 on_told change None = None
 on_told change (Some there) = Some (change there)

@@ -14,7 +14,7 @@ plan_faults plan slot = slice_index_or plan.faults slot 0
 abbrev pub IsDue : FaultPlan → ℕ → Type 0
 IsDue plan slot = (plan.left ≡ Some 0) ⊎ Contains plan.planned.items (record { slot = slot; call = min (plan_calls plan slot + 1) (2 ^ 64 - 1) })
 
--- one call less that may succeed, where they are limited
+-- one call less that may succeed, if they are limited
 abbrev pub one_less : Option ℕ → Option ℕ
 one_less None = None
 one_less (Some left) = Some (left - 1)

@@ -9,7 +9,7 @@ count_limit = 2 ^ 64 - 1
 abbrev pub Rose : ℕ → ℕ → Type 0
 Rose before now = min (before + 1) count_limit ≤ now
 
--- the count of a call: it never falls, stays where the call succeeds, rises where it fails, and stands still
+-- the count of a call: it never falls, stays if the call succeeds, rises if it fails, and stands still
 -- at the largest
 pub record HasCause {T E : Type 0} (before now : ℕ) (result : Result T E) : Type 0 where
   pub later : before ≤ now

@@ -3,18 +3,18 @@ use Rattle.std.specs.Prelude.{◌≡◌, ◌≢◌, ◌≤◌, ◌+◌, ◌↔�
 use Rattle.rig_disk.specs.Disk.{IsOther}
 use Rattle.rig_disk.specs.Faults.{count_limit}
 
--- a count, where it is told, after so many more; it stands still at the largest
+-- a count, if it is told, after n more; it stands still at the largest
 abbrev pub more : ℕ → Option ℕ → Option ℕ
 more n None = None
 more n (Some before) = Some (min (before + n) count_limit)
 
--- a count, where it is told, doesn't fall and rises by at most so much
+-- a count, if it is told, doesn't fall and rises by at most n
 abbrev pub Adds : ℕ → Option ℕ → Option ℕ → Type 0
 Adds n (Some before) (Some now) = (before ≤ now) × (now ≤ before + n)
 Adds n (Some before) None = ⊥
 Adds n None now = Unit {0}
 
--- at most so many syncs, bytes written and bytes read of one slot
+-- one slot has at most the given numbers of syncs, bytes written and bytes read
 pub record Spends {R : Type 0} (syncs_of written_of read_of : R → ℕ → Option ℕ) (slot sync_count written_count read_count : ℕ) (old new : R) : Type 0 where
   pub syncs : Adds sync_count (syncs_of old slot) (syncs_of new slot)
   pub written : Adds written_count (written_of old slot) (written_of new slot)

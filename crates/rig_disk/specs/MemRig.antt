@@ -79,7 +79,7 @@ pub record HasSameCounts (old new : MemRig) : Type 0 where
   pub written : (slot : ℕ) → written_of new slot ≡ written_of old slot
   pub given : (slot : ℕ) → given_of new slot ≡ given_of old slot
 
--- a call fails where it is to fail, keeps what is planned, and changes nothing but counts of calls and faults where it fails
+-- a call fails if it is to fail, and keeps what is planned; if it fails it changes nothing but counts of calls and faults
 pub record MeetsPlan {T E : Type 0} (old new : MemRig) (slot : ℕ) (result : Result T E) : Type 0 where
   pub due : IsDue old.plan slot → IsErr result
   pub planned : planned_of new ≡ planned_of old
@@ -104,7 +104,7 @@ pub record IsUnused (rig : MemRig) : Type 0 where
 abbrev pub IsSettled : MemRig → Type 0
 IsSettled rig = (image : Image) (text : List ℕ) → ImagesAt rig.log (log_clock rig.log) image text → (s a : ℕ) → image s a ≡ disk_of rig s a
 
--- unused, no slot is here, and every area is empty
+-- a rig that is unused: no slot is here, and every area is empty
 pub record IsNew (rig : MemRig) : Type 0 where
   pub unused : IsUnused rig
   pub nowhere : (slot : ℕ) → is_here_in rig slot → ⊥

@@ -6,7 +6,7 @@ use Rattle.rig_disk.specs.Disk.{Image}
 abbrev pub Pair : Type 0
 Pair = List (List ℕ) × List (List ℕ)
 
--- the slots as these lists have them; an area that they don't have is empty
+-- the slots that these lists have; an area that they don't have is empty
 abbrev pub image_of : Pair → Image
 image_of pair s zero = get_or pair.0 s []
 image_of pair s (suc zero) = get_or pair.1 s []

@@ -1,11 +1,11 @@
--- A byte that is other than it was written. Source: this project.
+-- A byte that differs from what was written. Source: this project.
 use Rattle.std.specs.Prelude.{◌==◌, ◌&&◌, ◌-◌, ℕ, set, nat_le, if◌then◌else◌}
 use Rattle.rig_disk.specs.Disk.{Image}
 use Rattle.rig_disk.specs.SlotAreas.{put}
 use Rattle.rig_disk.specs.declared.call.Call.{Call}
 use Rattle.rig_disk.specs.declared.call.Call.TheVariants.{Write, Shorten, Sync, Say}
 
--- the slots with one byte of an area changed, where there is one
+-- the slots with one byte of an area changed, if it is there
 abbrev pub spoiled : ℕ → ℕ → ℕ → ℕ → Image → Image
 spoiled slot area at byte disk = put slot area (set (disk slot area) at byte) disk
 

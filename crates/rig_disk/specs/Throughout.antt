@@ -12,6 +12,6 @@ pub record Throughout {R I : Type 0} (clock : R → ℕ) (images : R → ℕ →
 abbrev pub Each : {I : Type 0} → (I → List ℕ → Type 0) → (I → List ℕ → Type 0) → Type 0
 Each {I = I} P images = (image : I) (text : List ℕ) → images image text → P image text
 
--- what images have together goes on to any others that are all among them
+-- what images have together holds of any images that are all among them
 abbrev pub IsOfImages : {I : Type 0} → ((I → List ℕ → Type 0) → Type 0) → Type 1
 IsOfImages {I = I} Q = (here there : I → List ℕ → Type 0) → ((image : I) (text : List ℕ) → there image text → here image text) → Q here → Q there

@@ -1,4 +1,4 @@
-//! What a call did to a rig in memory, as it is kept.
+//! What is kept of a call on a rig in memory.
 use ec_words::Bytes;
 
 /// A call that changed what a crash may leave, or what was said.

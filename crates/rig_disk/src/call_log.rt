@@ -104,7 +104,7 @@ impl CallLog {
         Ok(())
     }
 
-    /// Keeps that an area was synced.
+    /// Notes that an area was synced.
     pub fn sync(&mut self, slot: u8, area: u8) -> Result<(), NoMemory>
         requires slot { slot ≤ 16 }
         requires area { area ≤ 1 }
@@ -131,8 +131,9 @@ impl CallLog {
         Ok(())
     }
 
-    /// The slots after a crash, by the pick: 0 the bytes of the last sync, 2 those written with 0xff in each byte written
-    /// since, 3 those written cut to the least length since, any other those written. Nothing is said, and no call.
+    /// The slots after a crash, by the pick. 0 leaves the bytes of the last sync, 2 those written with 0xff in each byte written
+    /// since, 3 those written and cut to the least length since, and any other pick those written. The new log has said nothing
+    /// and has no call.
     pub fn crash(&self, alloc: Global, pick: u8) -> Result<CallLog, NoMemory>
         ensures calls { IfOk result (λ log. log.calls ≡ []) }
         ensures disk { IfOk result (λ log. image_of log.first ≡ crashed pick self.now) }
@@ -148,7 +149,7 @@ impl CallLog {
         })
     }
 
-    /// Changes one byte of an area, as if it had been so from the first. It is false where there is none.
+    /// Changes one byte of an area, as if it had been so from the first. It is false if there is no such byte.
     pub fn spoil(&mut self, alloc: Global, slot: u8, area: u8, at: u64, byte: u8) -> bool
         requires slot { slot ≤ 16 }
         requires area { area ≤ 1 }

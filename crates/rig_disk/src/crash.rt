@@ -1,4 +1,4 @@
-//! What a crash leaves of slots in memory: their calls are done again, and what no sync has pinned is picked.
+//! What a crash leaves of slots in memory. Their calls are done again, and what no sync has pinned is picked.
 ghost use Rattle.std.specs.Prelude.{◌≡◌, ◌≤◌, ℕ, length, min, replicate, take, IfOk, OnOk};
 ghost use Rattle.rig_disk.specs.CallLog.{AreSound, IsFitting, IsWithin, after, disk_after};
 ghost use Rattle.rig_disk.specs.Crash.{crashed, picked_after, picked_step};
@@ -11,10 +11,10 @@ use crate::slot_areas::Areas;
 use ec_words::{Bytes, NoMemory};
 use std::alloc::Global;
 
-/// The byte that stands where a write since the last sync may have left any.
+/// The byte that a pick puts where a write since the last sync may have left any byte.
 const MARK: u8 = 0xff;
 
-/// What is picked of the bytes that a crash may leave.
+/// Which of the bytes that a crash may leave are picked.
 #[derive(Clone, Copy)]
 pub enum Pick {
     /// Bytes and lengths as at the last sync.
@@ -84,7 +84,7 @@ fn apply(alloc: Global, disk: &mut Areas, call: &Call) -> Result<(), NoMemory>
     }
 }
 
-// What a pick leaves after a call more, after which reads give `disk`.
+// What a pick leaves after one call more. After that call reads give `disk`.
 fn leave(
     alloc: Global,
     pick: Pick,
@@ -143,7 +143,7 @@ fn mark(
     left.write(alloc, slot, area, at, &marks)
 }
 
-// Leaves of an area the front of what reads give, no longer than what was left.
+// Leaves in an area the front of what reads give, no longer than what was left.
 fn leave_front(
     alloc: Global,
     left: &mut Areas,

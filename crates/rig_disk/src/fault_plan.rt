@@ -8,7 +8,7 @@ use crate::{Failed, PlannedFault};
 use ec_words::NoMemory;
 use std::alloc::Global;
 
-/// The calls on each slot, and on the output as number 17, how many of them have failed, and those that are to fail.
+/// How many calls each slot has had, and the output as number 17; how many of them have failed; which are to fail.
 #[derive(Drop)]
 pub struct FaultPlan {
     calls: [u64; COUNTED],
@@ -18,7 +18,7 @@ pub struct FaultPlan {
 }
 
 impl FaultPlan {
-    /// No call, no fault, and none planned.
+    /// A plan with no call so far, no fault, and none to come.
     pub fn new(alloc: Global) -> FaultPlan
         ensures { IsNewPlan result }
     {
@@ -47,7 +47,7 @@ impl FaultPlan {
         Ok(())
     }
 
-    /// Lets all further calls but so many fail.
+    /// Lets the given number of further calls succeed, and all calls after them fail.
     pub fn stop_after(&mut self, calls: u64)
         ensures left { self.new.left ≡ Some calls }
         ensures planned { self.new.planned.items ≡ self.old.planned.items }
@@ -56,7 +56,7 @@ impl FaultPlan {
         self.left = Some(calls);
     }
 
-    /// Counts a call on a slot, which fails where it is to fail.
+    /// Counts a call on a slot, and fails if that call is to fail.
     pub fn begin(&mut self, slot: u8) -> Result<(), Failed>
         requires { slot ≤ 17 }
         ensures due { IsErr result ↔ IsDue self.old slot }

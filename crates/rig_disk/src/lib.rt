@@ -1,8 +1,8 @@
 //! What lies outside a pool: its storage devices with the output beside them, and its input.
 //!
 //! Headline: at every instant of a call of a [`Rig`] what a crash may leave is as docs/CRASH-MODEL.md says. A call fails
-//! only where its count of faults rose ([`Rig`], [`Source`]). What slots read, what was said and what is left of the input
-//! are known where the implementor tells them. [`MemRig`] and [`MemSource`] tell all and fail where a test plans it;
+//! only if its count of faults rose ([`Rig`], [`Source`]). What slots read, what was said and what is left of the input
+//! are known if the implementor tells them. [`MemRig`] and [`MemSource`] tell all of it, and fail when a test plans it.
 //! [`FileRig`] and [`StdSource`] are the real ones, and tell no contents.
 #![tactic(auto)]
 

@@ -1,4 +1,4 @@
-//! A rig in memory for tests, which tells all and fails where it is planned.
+//! A rig in memory for tests. It tells everything, and fails when a test plans it.
 ghost use Rattle.std.specs.Prelude.{◌≡◌, ◌≢◌, ◌≤◌, ◌<◌, ◌∷◌, [], ◌++◌, ◌+◌, ◌-◌, ◌^◌, ◌↔◌, ℕ, List, Option, Some, length, min, take, IfOk, OnOk, OnErr, IsSome, IsTrue, slice_index_or};
 ghost use Rattle.rig_disk.specs.Disk.{read_part};
 
@@ -9,8 +9,8 @@ use crate::{Failed, Rig, VOICE};
 use ec_words::NoMemory;
 use std::alloc::Global;
 
-/// A rig in memory. It keeps its calls, from which what a crash may leave follows. A failed call of it changes nothing
-/// but its count of faults.
+/// A rig in memory. It keeps its calls, and what a crash may leave follows from them. A failed call changes nothing but its
+/// count of faults.
 #[derive(Drop)]
 pub struct MemRig {
     alloc: Global,
@@ -55,7 +55,7 @@ impl MemRig {
         self.plan.fail_at(slot, nth)
     }
 
-    /// Lets all further calls but so many fail.
+    /// Lets the given number of further calls succeed, and all calls after them fail.
     pub fn stop_after(&mut self, calls: u64)
         ensures left { left_of self.new ≡ Some calls }
         ensures planned { planned_of self.new ≡ planned_of self.old }
@@ -76,7 +76,7 @@ impl MemRig {
         self.here[usize::from(slot)] = false;
     }
 
-    /// Changes one byte of an area, as if it had been so from the first, and is false where there is none.
+    /// Changes one byte of an area, as if it had been so from the first. It is false if there is no such byte.
     pub fn spoil(&mut self, slot: u8, area: u8, at: u64, byte: u8) -> bool
         requires slot { slot ≤ 16 }
         requires area { area ≤ 1 }
@@ -92,7 +92,7 @@ impl MemRig {
         self.log.spoil(self.alloc, slot, area, at, byte)
     }
 
-    /// One rig that a crash may leave now, with nothing said, and no fault, none planned and nothing counted. Pick 0
+    /// One rig that a crash may leave now. It has said nothing, has no fault and none planned, and has counted nothing. Pick 0
     /// leaves bytes and lengths as at the last sync, 1 as written, 2 as written with 0xff in each byte written since
     /// the sync, 3 as written and cut to the least length since the sync. A larger pick means 1.
     pub fn crash(&self, alloc: Global, pick: u8) -> Result<MemRig, NoMemory>

@@ -1,4 +1,4 @@
-//! Input in memory for tests, which tells what is left and fails where it is planned.
+//! Input in memory for tests. It tells what is left, and fails when a test plans it.
 ghost use Rattle.std.specs.Prelude.{◌≡◌, ◌≢◌, ◌<◌, ◌≤◌, ◌↔◌, ◌+◌, ◌-◌, ◌^◌, ℕ, List, Option, Some, min, drop, length, IfOk, IsErr};
 
 use crate::{Failed, Source};

@@ -1,5 +1,5 @@
 //! The storage devices of a pool, in numbered slots of two areas each, and the output ("voice") beside them. One
-//! clock runs over all of them; docs/CRASH-MODEL.md tells what a crash may leave at each of its numbers.
+//! clock runs over all of them. docs/CRASH-MODEL.md says what a crash may leave at each of its numbers.
 ghost use Rattle.std.specs.Prelude.{◌≡◌, ◌≢◌, ◌≤◌, ◌+◌, ◌-◌, ◌^◌, ◌↔◌, ℕ, List, length, take, min, Option, Some, IsTrue, IsSome, IfOk, OnOk, OnErr};
 ghost use Rattle.rig_disk.specs.Disk.{Image, Torn, Cut, From, Saying, on_told, written, read_part};
 ghost use Rattle.rig_disk.specs.During.{During, Only};
@@ -15,16 +15,16 @@ use thiserror::Error;
 #[error("failed")]
 pub struct Failed;
 
-/// The outside of a pool: slots 0 to 16 with areas 0 and 1, and the output. All but `here`, `place` and `say` is
-/// called on slots that are here.
+/// The outside of a pool: slots 0 to 16 with areas 0 and 1, and the output. All calls but `here`, `place` and `say` are
+/// for slots that are here.
 pub trait Rig {
     /// Whether a slot is here.
     ghost is_here: { Self → ℕ → Type 0 };
 
-    /// What a read of an area gives, where the rig tells it.
+    /// What a read of an area gives, if the rig tells it.
     ghost reads: { Self → ℕ → ℕ → Option (List ℕ) };
 
-    /// What was said, where the rig tells it.
+    /// What was said, if the rig tells it.
     ghost said: { Self → Option (List ℕ) };
 
     /// The number of the present instant. It never falls, and each instant inside a call has one of its own.
@@ -33,16 +33,16 @@ pub trait Rig {
     /// What a crash at an instant may leave, with what was said by then.
     ghost images: { Self → ℕ → Image → List ℕ → Type 0 };
 
-    /// How often each slot has failed, and under `VOICE` the output. It is always told.
+    /// How often each slot has failed, and under `VOICE` how often the output has. It is always told.
     ghost faults: { Self → ℕ → ℕ };
 
-    /// How often the areas of each slot were synced, where the rig tells it.
+    /// How often the areas of each slot were synced, if the rig tells it.
     ghost syncs: { Self → ℕ → Option ℕ };
 
-    /// How many bytes were written to each slot, where the rig tells it.
+    /// How many bytes were written to each slot, if the rig tells it.
     ghost bytes_written: { Self → ℕ → Option ℕ };
 
-    /// How many bytes of each slot were read, where the rig tells it.
+    /// How many bytes of each slot were read, if the rig tells it.
     ghost bytes_read: { Self → ℕ → Option ℕ };
 
     fn here(&self, slot: u8) -> bool
@@ -63,7 +63,7 @@ pub trait Rig {
         ensures said { said self.new ≡ said self.old }
         ensures kept { KeepsCounts faults syncs bytes_written bytes_read slot self.old self.new };
 
-    /// The count of an area's bytes.
+    /// The number of an area's bytes.
     fn length(&mut self, slot: u8, area: u8) -> Result<u64, Failed>
         requires slot { slot ≤ 16 }
         requires area { area ≤ 1 }
@@ -78,7 +78,7 @@ pub trait Rig {
         ensures kept { KeepsOthers is_here reads said faults syncs bytes_written bytes_read
             slot area self.old self.new };
 
-    /// Fills the front of `into` with the area's bytes from `at` on, and answers how many: as many as fit and are left.
+    /// Fills the front of `into` with the area's bytes from `at` on, and answers how many: as many as fit and are there.
     fn read_at(&mut self, slot: u8, area: u8, at: u64, into: &mut [u8]) -> Result<usize, Failed>
         requires slot { slot ≤ 16 }
         requires area { area ≤ 1 }
@@ -163,7 +163,7 @@ pub trait Rig {
         ensures reads { (s a : ℕ) → reads self.new s a ≡ reads self.old s a }
         ensures kept { KeepsCounts faults syncs bytes_written bytes_read VOICE self.old self.new };
 
-    /// Where an area is told, the slots as they read are one of the images of now.
+    /// If an area is told, the slots as they read are one of the images of now.
     ghost as_read: { (rig : Self) (slot_no area_no : ℕ) (there : List ℕ) → reads rig slot_no area_no ≡ Some there
         → (image : Image) × (text : List ℕ) × images rig (clock rig) image text
         × ((s a : ℕ) (bytes_there : List ℕ) → reads rig s a ≡ Some bytes_there → image s a ≡ bytes_there) };

@@ -111,7 +111,7 @@ impl Areas {
         self.replace(slot, area, Bytes::of(there));
     }
 
-    /// Changes one byte of an area, where there is one.
+    /// Changes one byte of an area, if it is there.
     pub fn set(&mut self, alloc: Global, slot: u8, area: u8, at: u64, byte: u8)
         requires slot { slot ≤ 16 }
         requires area { area ≤ 1 }
@@ -124,7 +124,7 @@ impl Areas {
     }
 }
 
-/// Changes one byte, where there is one.
+/// Changes one byte, if it is there.
 pub fn with_byte(bytes: Bytes, at: u64, byte: u8) -> Bytes
     ensures { result ≡ set bytes at byte }
 {

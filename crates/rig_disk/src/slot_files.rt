@@ -57,7 +57,7 @@ impl<T: Runtime> SlotFiles<T> {
         }
     }
 
-    /// Reads what fits and is left from `at` on. Fewer bytes than the length leaves are an error.
+    /// Reads from `at` on what fits and is there. It is an error if the file gives fewer bytes than its length says.
     pub fn read(&mut self, slot: u8, area: u8, at: u64, into: &mut [u8]) -> io::Result<usize>
         ensures { IfOk result (λ count. count ≤ length into.old) }
     {
@@ -103,7 +103,7 @@ impl<T: Runtime> SlotFiles<T> {
         self.rt.write_all(bytes)
     }
 
-    // The place of an area's file, which is looked for at the first use.
+    // The place of an area's file. The file is looked for at its first use.
     fn ask(&mut self, slot: u8, area: u8) -> io::Result<usize> {
         let index = 2 * usize::from(slot) + usize::from(area);
         if let Some(AreaFile::Unasked) = self.areas.get(index) {
@@ -124,7 +124,7 @@ impl<T: Runtime> SlotFiles<T> {
         find_file(&self.rt, path.as_str())
     }
 
-    // Makes an area's file where there is none.
+    // Makes an area's file if there is none.
     fn make_missing(&mut self, index: usize, slot: u8, area: u8) -> io::Result<()> {
         if let Some(AreaFile::Missing) = self.areas.get(index) {
             let made = self.make(slot, area)?;
@@ -167,11 +167,11 @@ enum AreaFile<F: Drop> {
     Open(OpenArea<F>),
 }
 
-/// An area's file, which stays open from the first use on.
+/// An area's file. It stays open from its first use on.
 #[derive(Drop)]
 struct OpenArea<F: Drop> {
     file: F,
-    /// The length as it was first asked for, in bytes, and as the writes and cuts since changed it.
+    /// The length in bytes, as the system said it at first and as the writes and cuts since then changed it.
     len: u64,
     /// The folder was synced since the file was opened.
     listed: bool,
@@ -227,7 +227,7 @@ fn is_folder<T: Runtime>(rt: &T, path: &str) -> bool {
     }
 }
 
-// Makes a folder and those above it. Then it syncs the folder that holds it, and those that hold one that was made.
+// Makes a folder and those above it. Then it syncs the folder that holds it, and each folder that holds one that was made.
 fn make_folder<T: Runtime>(rt: &T, path: &str) -> io::Result<()> {
     let missing = count_missing(rt, path).max(1);
     fs::create_dir_all(rt, path)?;
@@ -237,7 +237,7 @@ fn make_folder<T: Runtime>(rt: &T, path: &str) -> io::Result<()> {
     Ok(())
 }
 
-// How many of a folder and those above it are not there.
+// How many folders are missing among this one and those above it.
 fn count_missing<T: Runtime>(rt: &T, path: &str) -> usize {
     let mut missing = 0usize;
     for folder in Path::new(path).ancestors() {
@@ -249,7 +249,7 @@ fn count_missing<T: Runtime>(rt: &T, path: &str) -> usize {
     missing
 }
 
-// Syncs the names in a folder. The empty path is the folder at work.
+// Syncs the names in a folder. The empty path is the working folder.
 fn sync_folder<T: Runtime>(rt: &T, path: &str) -> io::Result<()> {
     let path = if path.is_empty() { "." } else { path };
     fs::open(rt, path)?.sync_all()

@@ -7,13 +7,13 @@ use crate::Failed;
 
 /// Input, taken piece by piece.
 pub trait Source {
-    /// What is left, where the source tells it.
+    /// What is left, if the source tells it.
     ghost left: { Self → Option (List ℕ) };
 
     /// How often it has failed. It is always told.
     ghost faults: { Self → ℕ };
 
-    /// Fills the front of `into`, and answers how many bytes of it. 0 is the end. After `Failed` all is left.
+    /// Fills the front of `into`, and answers how many bytes it filled. 0 means the end. After `Failed` all that was left is left.
     fn take(&mut self, into: &mut [u8]) -> Result<usize, Failed>
         requires { 0 < length into.old }
         ensures bound { IfOk result (λ count. count ≤ length into.new) }

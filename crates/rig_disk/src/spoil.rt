@@ -1,4 +1,4 @@
-//! A byte of slots in memory that is other than it was written, as if it had been so from the first.
+//! A byte of slots in memory that differs from what was written, as if it had been so from the first.
 ghost use Rattle.std.specs.Prelude.{◌≡◌, map};
 ghost use Rattle.rig_disk.specs.Spoil.{spoiled_call};
 
