@@ -1,5 +1,6 @@
 pub mod AssemblyLemmas
 mod ChunkLemmas
+mod DataSetLemmas
 mod DecodingJoinLemmas
 pub mod DecodingLemmas
 pub mod DecodingMaskLemmas

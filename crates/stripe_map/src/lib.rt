@@ -11,6 +11,7 @@
 mod assembling;
 mod chunks;
 mod combining;
+mod data;
 mod decoding;
 mod encoding;
 mod joining;
@@ -23,6 +24,7 @@ mod touch;
 pub use assembling::add_position;
 pub use chunks::Chunks;
 pub use combining::{data_rows, make_piece};
+pub use data::data_set;
 pub use decoding::{DecodeFault, decode_object};
 pub use encoding::encode_object;
 pub use laws::{

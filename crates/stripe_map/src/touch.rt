@@ -1,6 +1,6 @@
 //! The stripes that a range of bytes touches. Source: Ceph developer guide, "Erasure Coded pool": a stripe is
 //! `k * stripe_unit` bytes of the object.
-ghost use Rattle.std.specs.Prelude.{◌≡◌, ◌*◌};
+ghost use Rattle.std.specs.Prelude.{◌≡◌, ◌≤◌, ◌+◌, ◌-◌, ◌*◌, ◌/◌};
 ghost use Rattle.stripe_map.specs.Touch.{IsTouched};
 
 use ec_words::Geometry;
@@ -9,6 +9,7 @@ use ec_words::Geometry;
 /// A stripe is `g.k * g.unit` bytes.
 pub fn touched(g: Geometry, off: u32, len: u32) -> (u32, u32)
     ensures value { IsTouched (g.k * g.unit) off len result.0 result.1 }
+    ensures numbers { 1 ≤ len → result ≡ (off / (g.k * g.unit), (off + len - 1) / (g.k * g.unit) - off / (g.k * g.unit) + 1) }
     ensures none { len ≡ 0 → result ≡ (0, 0) }
 {
     if len == 0 {
