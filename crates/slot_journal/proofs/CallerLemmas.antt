@@ -9,7 +9,7 @@ use Rattle.slot_journal.specs.InUse.{Areas, open_text, first_told}
 use Rattle.slot_journal.specs.Journal.{slot_of, Holds, IsSettledWhereTold, InSlot}
 use Rattle.slot_journal.specs.Reading.{KeepsOtherSlots, SyncsAndReads, SyncsAndReadsArea}
 use Rattle.slot_journal.specs.declared.fault.JournalFault.{JournalFault}
-use Rattle.slot_journal.specs.declared.fault.JournalFault.TheVariants.{Failed, BadSlot, NoMemory}
+use Rattle.slot_journal.specs.declared.fault.JournalFault.TheVariants.{Failed, BadSlot}
 use Rattle.slot_journal.specs.declared.journal.Journal.{Journal}
 
 module _ {R : Type 0} (reads_of : R → ℕ → ℕ → Option (List ℕ)) (clock_of : R → ℕ) (images_of : R → ℕ → Image → List ℕ → Type 0) (old new : R) (journal : Journal)
@@ -90,9 +90,6 @@ ok_unfailed value e = cc
 
 pub ok_not_err : false ≡ true → ⊥
 ok_not_err e = cc
-
-pub memory_unfailed : {T : Type 0} → ◌≡◌ {A = Result T JournalFault} (Err NoMemory) (Err Failed) → ⊥
-memory_unfailed e = cc
 
 pub bad_unfailed : {T : Type 0} (result : Result T JournalFault) (at : ℕ) → IsErrOf result (BadSlot at) → IsErrOf result Failed → ⊥
 bad_unfailed result at bad failed = cc

@@ -32,7 +32,7 @@ records_meet a b s t fits_a fits_b same =
       after = sym (drop_at a s (length a) refl) ∙ ap (λ (l : List ℕ). drop (length a) l) back ∙ drop_at b t (length a) (sym size);
     }
 
--- two lists of records, each up to where none begins, that are one list of bytes are one
+-- two lists of records with the same bytes, each up to a place where no record begins, are one list
 pub record EndsMeet (xs ys : List (List ℕ)) (s t : List ℕ) : Type 0 where
   pub bodies : xs ≡ ys
   pub rest : s ≡ t
@@ -75,7 +75,7 @@ fails_ends rest place at (inl none) = subst IsEnd (sym none.0) none_ends
 fails_ends rest place at (inr bad) = subst IsEnd (sym bad.1) (bad_length_ends bad.0 bad.2)
 
 module _ (head : List ℕ) where
-  -- where a text fits a head, it still does with more bytes behind it
+  -- a text that fits a head still does with more bytes behind it
   pub fits_longer : (header rest : List ℕ) (place : ℕ) → FitsAt head header place → FitsAt head (header ++ rest) place
   fits_longer header rest place fits =
       let inside : place < length (header ++ rest) = omega (arith, fits.0, length-append header rest) in

@@ -37,7 +37,7 @@ module _ (head there front : List ℕ) (piece : IsPiece there 0 front) (enough :
     differs = λ fits. bad.differs (fits_front at bad.within fits);
   }
 
--- where byte 0 serves, the gate is open
+-- if byte 0 serves, the gate is open
 pub gate_is_open : (head there : List ℕ) → FitsAt head there 0 → get_or there 0 0 ≡ open_gate
 gate_is_open head there fits = ⊎_elim (λ same. same) (λ format. absurd (omega (arith, format.0))) fits.1
 

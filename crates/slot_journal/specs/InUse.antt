@@ -11,7 +11,7 @@ Areas = ℕ → List ℕ
 abbrev pub is_open : List ℕ → Bool
 is_open bytes = get_or bytes 0 0 == open_gate
 
--- an area's bytes, or none where it isn't open
+-- an area's bytes if it is open, and else no bytes
 abbrev pub open_text : List ℕ → List ℕ
 open_text bytes = if is_open bytes then bytes else []
 
@@ -19,19 +19,19 @@ open_text bytes = if is_open bytes then bytes else []
 abbrev pub area_in_use : ℕ → Areas → ℕ
 area_in_use slot areas = 0
 
--- the text in use of a slot: that of this area, where it is open
+-- the text in use of a slot: that of the area in use if it is open, and else no bytes
 abbrev pub text_in_use : ℕ → Areas → List ℕ
 text_in_use slot areas = open_text (areas (area_in_use slot areas))
 
--- the first area, where it is told
+-- the first area, if it is told
 abbrev pub first_told : Option (List ℕ) → Option ℕ
 first_told None = None
 first_told (Some there) = Some 0
 
--- the area in use of a slot as it reads, where the rig tells it
+-- the area in use of a slot as it reads, if the rig tells it
 abbrev pub told_area : ℕ → (ℕ → Option (List ℕ)) → Option ℕ
 told_area slot areas = first_told (areas 0)
 
--- the text in use of a slot as it reads, where the rig tells it
+-- the text in use of a slot as it reads, if the rig tells it
 abbrev pub told_text : ℕ → (ℕ → Option (List ℕ)) → Option (List ℕ)
 told_text slot areas = on_told open_text (areas 0)

@@ -52,7 +52,7 @@ pub record IsSettled (reads : ℕ → ℕ → Option (List ℕ)) (images : Image
   pub bodies : List (List ℕ)
   pub holds : Holds reads images journal head bodies text
 
--- the same, where the rig tells the slot's text in use
+-- the same, if the rig tells the slot's text in use
 abbrev pub IsSettledWhereTold : (ℕ → ℕ → Option (List ℕ)) → (Image → List ℕ → Type 0) → Journal → Type 0
 IsSettledWhereTold reads images journal =
     (text : List ℕ) → told_text (slot_of journal) (reads (slot_of journal)) ≡ Some text → IsSettled reads images journal text

@@ -8,7 +8,7 @@ TextsHaveOneReading =
     (text head other : List ℕ) (bodies those : List (List ℕ)) (place there : ℕ)
     → IsText head bodies place text → IsText other those there text → (bodies ≡ those) × (place ≡ there)
 
--- a text of the grammar has no place where it fails, and any other has one first such place at most
+-- a text of the grammar has no place where it fails, and any other text has one first such place at most
 abbrev pub BadTextsHaveOnePlace : Type 0
 BadTextsHaveOnePlace =
     (text head : List ℕ) (at : ℕ) → IsBadText head text at

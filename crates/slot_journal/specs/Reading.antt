@@ -1,5 +1,5 @@
 -- Calls that only read, and the pieces in which a text is read. Source: this project.
-use Rattle.std.specs.Prelude.{◌≡◌, ◌≢◌, ◌↔◌, ◌≤◌, ◌<◌, ◌+◌, ◌-◌, ℕ, List, ◌++◌, length, take, drop, get_or, min, Option, Result, IsSome, IsErrOf}
+use Rattle.std.specs.Prelude.{◌≡◌, ◌≢◌, ◌↔◌, ◌≤◌, ◌<◌, ◌+◌, ◌-◌, ℕ, List, ◌++◌, length, take, drop, get_or, min, Option, Some, Result, IsSome, IsErrOf}
 use Rattle.rig_disk.specs.Disk.{Image}
 use Rattle.rig_disk.specs.During.{During}
 use Rattle.rig_disk.specs.Faults.{Rose}
@@ -9,7 +9,7 @@ use Rattle.slot_journal.specs.Text.{max_body, record_bytes, records, AreSized, F
 use Rattle.slot_journal.specs.declared.fault.JournalFault.{JournalFault}
 use Rattle.slot_journal.specs.declared.fault.JournalFault.TheVariants.{Failed}
 
--- the slot's count of faults rose where the answer is `Failed`, and else it is as it was
+-- the slot's count of faults rose if the answer is `Failed`, and else it is as it was
 pub record HasSlotCause {T : Type 0} (before now : ℕ) (result : Result T JournalFault) : Type 0 where
   pub failed : IsErrOf result Failed → Rose before now
   pub quiet : (IsErrOf result Failed → ⊥) → now ≡ before
@@ -73,6 +73,11 @@ IsPiece text start bytes = bytes ≡ take (length bytes) (drop start text)
 pub record ShowsPrefix (text : List ℕ) (at : ℕ) (ahead : List ℕ) : Type 0 where
   pub is_piece : IsPiece text at ahead
   pub enough : min 5 (length text - at) ≤ length ahead
+
+-- a piece begins at a place or before it, and has bytes of the text, if that is told
+pub record IsPieceFor (told : Option (List ℕ)) (at start : ℕ) (bytes : List ℕ) : Type 0 where
+  pub begins : start ≤ at
+  pub is_piece : (there : List ℕ) → told ≡ Some there → IsPiece there start bytes
 
 -- a record with this body stands at this place
 pub record IsRecordAt (text : List ℕ) (at : ℕ) (body : List ℕ) : Type 0 where

@@ -47,13 +47,6 @@ pub record IsText (head : List ℕ) (bodies : List (List ℕ)) (place : ℕ) (te
   pub at : place ≡ length (header ++ records bodies)
   pub bytes : text ≡ header ++ records bodies ++ gate ∷ rest
 
--- a text of the grammar, whatever head and records it has
-pub record IsSomeText (text : List ℕ) : Type 0 where
-  pub head : List ℕ
-  pub bodies : List (List ℕ)
-  pub place : ℕ
-  pub is_text : IsText head bodies place text
-
 -- no length of a record begins a rest of `count` bytes: its four bytes are not all there, it is out of range, or it
 -- passes the end
 abbrev pub IsBadLength : List ℕ → ℕ → Type 0
@@ -68,8 +61,8 @@ pub record IsBodyLength (rest : List ℕ) (count len : ℕ) : Type 0 where
   pub most : len ≤ max_body
   pub within : 4 + len ≤ count
 
--- the text ends where a gate is missing, or no length stands behind an open one; `at` is that end, or the length's
--- first byte
+-- the text ends where a gate is missing, or no length stands behind an open one; `at` is the place of that end, or of the
+-- length's first byte
 abbrev pub FailsAt : List ℕ → ℕ → ℕ → Type 0
 FailsAt rest place at =
     ((rest ≡ []) × (at ≡ place))

@@ -19,7 +19,7 @@ impl Model for Bodies {
 }
 
 impl Bodies {
-    /// No bodies. They take no memory yet.
+    /// An empty list of bodies. It takes no memory yet.
     pub fn new(alloc: Global) -> Bodies
         ensures { result ≡ [] }
     {
@@ -28,7 +28,7 @@ impl Bodies {
         }
     }
 
-    /// The bodies of a `Vec`, which is taken over as it is.
+    /// The bodies of a `Vec`. It is taken over as it is.
     pub fn of(list: Vec<Bytes>) -> Bodies
         ensures { result ≡ list.items }
     {

@@ -13,7 +13,7 @@ pub enum JournalFault {
     /// A call of the rig failed, and the slot's count of faults rose.
     #[error("failed")]
     Failed,
-    /// The slot holds no text for the head, and `at` is the first place where it fails.
+    /// The slot holds no text for the head. `at` is the first place where it fails.
     #[error("no text from byte {at} on")]
     BadSlot { at: u64 },
     /// A call of this journal has failed before.

@@ -21,7 +21,7 @@ pub struct Header {
     pub n: u8,
     /// Bytes of a chunk in one stripe.
     pub unit: u32,
-    /// Which of two texts of a slot is the newer one. So far it is 0.
+    /// It tells which of two texts of a slot is the newer one. So far it is 0.
     pub serial: u64,
 }
 
@@ -71,7 +71,7 @@ impl Header {
         head
     }
 
-    /// What a head says, or none where its letters or its format are not known.
+    /// What a head says, or `None` if its letters or its format are not known.
     pub fn decode(head: &[u8; 23]) -> Option<Header>
         ensures value { IfSome result (λ header. head_of header ≡ head.now) }
         ensures none { IfNone result (IsHead head.now → ⊥) }

@@ -1,4 +1,4 @@
-//! A journal: the records of a slot, to which one more may be added at a time.
+//! A journal: the records of a slot. One more may be added at a time.
 ghost use Rattle.std.specs.Prelude.{◌≡◌, ◌≢◌, ◌⊎◌, ◌≤◌, ◌+◌, ◌-◌, ◌^◌, ◌↔◌, ◌++◌, ◌∷◌, [], ℕ, List, length, Some, Err, false, IsTrue, IfOk, IfErr, IsErrOf, OnOk, OnErr};
 ghost use Rattle.rig_disk.specs.During.{During};
 ghost use Rattle.rig_disk.specs.Frame.{Spends, KeepsOthers};
@@ -74,7 +74,7 @@ impl Journal {
         })
     }
 
-    /// Reads the records of a slot whose head is given, bytes 1 to 23 of its text.
+    /// Reads the records of a slot. `head` is bytes 1 to 23 of its text.
     pub fn load<R: Rig>(
         alloc: Global,
         rig: &mut R,
@@ -84,7 +84,7 @@ impl Journal {
         requires slot { slot ≤ 16 }
         requires here { R.is_here rig.old slot }
 
-        // The bodies are those of the text in use, which is then all that a crash leaves in use.
+        // The bodies are those of the text in use. A crash then leaves just that text in use.
         ensures ok { IfOk result (λ read. (text : List ℕ) → told_text slot (R.reads rig.old slot) ≡ Some text
             → Holds (R.reads rig.new) (R.images rig.new (R.clock rig.new)) read.0 head.now read.1 text) }
         ensures settled { IfOk result (λ read.
@@ -155,7 +155,7 @@ impl Journal {
         }
     }
 
-    /// How many bytes the text may still grow by. A record takes its body's and five more.
+    /// How many bytes the text may still grow by. A record takes the bytes of its body and five more.
     pub fn room(&self) -> u64
         ensures { result ≡ room_of self.now }
     {

@@ -1,4 +1,4 @@
-//! Laws about texts, for every caller: functions that do nothing and whose contract is the law.
+//! Laws about texts, for every caller. Each is the contract of a function that does nothing.
 ghost use Rattle.slot_journal.specs.Laws.{TextsHaveOneReading, BadTextsHaveOnePlace};
 
 /// A text has one reading.

@@ -1,8 +1,8 @@
-//! The journal of a slot: records, each of which is whole on the disk before its gate is opened.
+//! The journal of a slot: its records. Each of them is whole on the disk before its gate is opened.
 //!
 //! Headline: at each instant of [`Journal::commit`] a crash leaves the records of before, or these and the new one
-//! (`any_moment`, `Commits`), and [`Journal::load`] gives exactly the bodies of the slot's text in use (`IsText`), or the
-//! first place where that is no text (`IsBadText`).
+//! (`any_moment`, `Commits`). [`Journal::load`] gives exactly the bodies of the slot's text in use (`IsText`), or the first
+//! place where that is no text (`IsBadText`).
 //!
 //! A record with the body 07 00000001 has the bytes 4f 00000005 07 00000001, and the byte behind it is a closed gate or
 //! the next record's open one. docs/FORMAT.md has a whole text.

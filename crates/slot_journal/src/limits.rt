@@ -6,7 +6,7 @@ pub const OPEN_GATE: u8 = 0x4f;
 /// The byte that is written where a gate is to be closed. Any byte but [`OPEN_GATE`] is a closed gate.
 pub const CLOSED_GATE: u8 = 0;
 
-/// The bytes of a header's head, which stands behind its gate.
+/// The bytes of a header's head. It stands behind the header's gate.
 pub const HEAD_LEN: usize = 23;
 
 /// The bytes of a header.

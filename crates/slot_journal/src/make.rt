@@ -36,8 +36,8 @@ fn is_shut<R: Rig>(rig: &mut R, slot: u8) -> Result<bool, Failed>
     Ok(gate[0] != OPEN_GATE)
 }
 
-/// Closes the area's first gate where it is open or missing. One that is closed is not written again: a crash could
-/// open it over what stands behind it.
+/// Closes the area's first gate if it is open or missing. A closed gate is not written again: a crash could open it over what
+/// stands behind it.
 pub fn shut<R: Rig>(rig: &mut R, slot: u8) -> Result<(), Failed>
     requires slot { slot ≤ 16 }
     requires here { R.is_here rig.old slot }

@@ -34,8 +34,8 @@ pub fn sync_and_measure<R: Rig>(rig: &mut R, slot: u8) -> Result<u64, Failed>
     Ok(len)
 }
 
-/// Reads the bytes from `start` on, at most `count`, into the place of those that the piece had: fewer only where the text
-/// ends.
+/// Reads the bytes from `start` on, at most `count`, into the place of those that the piece had. It reads fewer only if the
+/// text ends.
 pub fn read_piece<R: Rig>(
     rig: &mut R,
     slot: u8,
@@ -103,7 +103,7 @@ pub fn ahead(piece: &Piece, at: u64) -> &[u8]
     }
 }
 
-/// Reads the next piece from `at` on where the present one does not show what a record begins with. `len` is the
+/// Reads the next piece from `at` on if the present one does not show what a record begins with. `len` is the
 /// text's length.
 pub fn refill<R: Rig>(
     rig: &mut R,

@@ -3,7 +3,7 @@ ghost use Rattle.std.specs.Prelude.{◌≡◌, ◌≢◌, ◌≤◌, ◌<◌, �
 ghost use Rattle.rig_disk.specs.Faults.{HasCause};
 ghost use Rattle.slot_journal.specs.Header.{open_gate};
 ghost use Rattle.slot_journal.specs.Text.{max_body, FailsAt};
-ghost use Rattle.slot_journal.specs.Reading.{HasSlotCause, OnlyReadsArea, IsPiece, IsRecordAt, IsReadUpTo};
+ghost use Rattle.slot_journal.specs.Reading.{HasSlotCause, OnlyReadsArea, IsPiece, IsPieceFor, IsRecordAt, IsReadUpTo};
 ghost use Rattle.slot_journal.specs.declared.fault.JournalFault.TheVariants.{BadSlot, Spent};
 
 use crate::limits::{AREA, PREFIX_LEN};
@@ -13,7 +13,7 @@ use ec_words::Bytes;
 use rig_disk::{Failed, Rig};
 use std::alloc::{AllocError, Global};
 
-/// A body of `len` bytes, of which the first are known.
+/// A body of `len` bytes whose first bytes are known.
 fn begin_body(alloc: Global, len: usize, known: &[u8]) -> Result<Vec<u8>, AllocError>
     requires { length known.now ≤ len }
     ensures len { IfOk result (λ body. length body.items ≡ len) }
@@ -25,7 +25,7 @@ fn begin_body(alloc: Global, len: usize, known: &[u8]) -> Result<Vec<u8>, AllocE
     Ok(body)
 }
 
-/// Fills a body, whose first bytes are known, with those that follow from `at` on, and answers how many it read.
+/// Fills a body whose first bytes are known with those that follow from `at` on, and answers how many it read.
 fn fill_behind<R: Rig>(
     rig: &mut R,
     slot: u8,
@@ -50,8 +50,8 @@ fn fill_behind<R: Rig>(
     Ok(n)
 }
 
-/// The `len` bytes from `at` on, of which the first are known. A rig that has fewer, though its length says otherwise,
-/// tells nothing; the length is then bad.
+/// The `len` bytes from `at` on. The first of them are known. If a rig has fewer bytes than its length says, it tells nothing,
+/// and the length is then bad.
 fn read_body<R: Rig>(
     alloc: Global,
     rig: &mut R,
@@ -85,7 +85,7 @@ fn read_body<R: Rig>(
     Ok(Bytes::of(body))
 }
 
-/// The body of the record at `at`, or none where the gate there is closed. `len` is the text's length.
+/// The body of the record at `at`, or `None` if the gate there is closed. `len` is the text's length.
 pub fn next_record<R: Rig>(
     alloc: Global,
     rig: &mut R,
@@ -102,9 +102,7 @@ pub fn next_record<R: Rig>(
     requires is_piece { (there : List ℕ) → R.reads rig.old slot 0 ≡ Some there
         → IsPiece there piece.old.start piece.old.bytes.items }
     ensures within { IfOk result (λ found. IfSome found (λ body. at + (5 + length body) ≤ len)) }
-    ensures start { OnOk result (piece.new.start ≤ at) }
-    ensures is_piece { OnOk result ((there : List ℕ) → R.reads rig.old slot 0 ≡ Some there
-        → IsPiece there piece.new.start piece.new.bytes.items) }
+    ensures piece { OnOk result (IsPieceFor (R.reads rig.old slot 0) at piece.new.start piece.new.bytes.items) }
     ensures none { IfOk result (λ found. IfNone found ((there : List ℕ) → R.reads rig.old slot 0 ≡ Some there
         → get_or there at 0 ≢ open_gate)) }
     ensures some { IfOk result (λ found. IfSome found (λ body. (there : List ℕ)

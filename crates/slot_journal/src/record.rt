@@ -16,7 +16,7 @@ pub fn record_prefix(body_len: u32) -> [u8; 5]
     prefix
 }
 
-/// The length that the first four bytes say, where it is one of a body and the body is all there. `rest_len` is the
+/// The length that the first four bytes say, if a body may have that length and the body is all there. `rest_len` is the
 /// number of bytes from the length on, those in `rest` included.
 pub fn read_body_len(rest: &[u8], rest_len: u64) -> Option<usize>
     ensures { MatchOption result (IsBadLength rest.now rest_len) (IsBodyLength rest.now rest_len) }

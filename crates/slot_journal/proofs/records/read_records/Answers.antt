@@ -46,14 +46,14 @@ loop-at-preserved g c =
     let size = ap length c.as_slice.ensures.value in
     let within = subst Within c.in-Some.is c.in_ok-next_record.ensures.within in
     record {
-      above = omega (arith, c.in_ok-next_record.ensures.start);
+      above = omega (arith, c.in_ok-next_record.ensures.piece.begins);
       within = omega (arith, within, size);
       here = search rules;
       quiet = search rules;
       kept = OnlyReads-more g.R.Rig.is_here g.R.Rig.reads g.R.Rig.said g.R.Rig.clock g.R.Rig.images g.R.Rig.faults g.R.Rig.syncs g.R.Rig.bytes_written g.R.Rig.bytes_read c.args.slot 0
           c.args.rig.now c.loop-at.rig c.next_record.new.rig c.loop-at.invariant.kept c.next_record.ensures.kept;
       len = c.requires.len;
-      is_piece = λ there told. c.in_ok-next_record.ensures.is_piece there (c.loop-at.invariant.kept.reads ∙ told);
+      is_piece = λ there told. c.in_ok-next_record.ensures.piece.is_piece there (c.loop-at.invariant.kept.reads ∙ told);
       read = λ there told.
           let more = read_more there c.loop-at.bodies.items c.loop-at.at body (c.loop-at.invariant.read there told)
           (subst Found c.in-Some.is c.in_ok-next_record.ensures.some there (c.loop-at.invariant.kept.reads ∙ told)) in
