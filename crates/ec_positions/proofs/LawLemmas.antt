@@ -12,7 +12,7 @@ use Rattle.ec_positions.specs.Laws.{geometry, ChangesKeepPositions}
 use Rattle.ec_positions.proofs.MapLemmas.{get-shard_of, shard_of-put}
 use Rattle.ec_positions.proofs.KindLemmas.{MayChange, comes_to, fits_there}
 
--- no cause holds where none is the first
+-- no cause holds if none is the first
 none_first : (b : Bool) (why : Refusal) (causes : List (Bool × Refusal)) → first_of ((b, why) ∷ causes) ≡ None → (b ≡ false) × (first_of causes ≡ None)
 none_first true why causes e = absurd (false≢true (ap is_none e))
 none_first false why causes e = (refl, e)

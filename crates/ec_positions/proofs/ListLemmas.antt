@@ -39,7 +39,7 @@ same_byte code unit one other p i some same = sum_below-same code.k _ _ (λ j lj
     let inside = place_in_stripe code.k unit i j some lj in
     ap (field_product (entry_at code.rows p j)) (same (place_of code.k unit i j) inside.0 inside.1))
 
--- where an object has no more bytes, its positions have zeros
+-- behind the end of an object its positions have zeros
 pub zero_byte : (code : CodeRows) (unit : ℕ) (bytes : List ℕ) (p i : ℕ) → 1 ≤ unit
     → ((x : ℕ) → i / unit * (code.k * unit) ≤ x → slice_index bytes x ≡ 0) → position_byte code unit bytes p i ≡ 0
 zero_byte code unit bytes p i some zero = sum_below-zero code.k _ (λ j lj.
@@ -81,7 +81,7 @@ lists_are_one code unit p bytes list some_k some is = same_number_lists list _ (
     stripe_below : (i n : ℕ) → i < n * unit → i / unit < n
     stripe_below i n lt = div_below i unit n (omega (arith, some)) lt
 
--- .. and is one of its lists
+-- the list that `position_list` gives is one of its lists
 pub list_is_one : (code : CodeRows) (unit p : ℕ) (bytes : List ℕ) → 1 ≤ unit → IsPositionList code unit bytes p (position_list code unit bytes p)
 list_is_one code unit p bytes some = record {
   long = length-position_list code unit bytes p;

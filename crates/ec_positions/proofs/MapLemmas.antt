@@ -9,7 +9,7 @@ use Rattle.shard_model.proofs.PutLemmas.{get-put, same_named, is_name}
 use Rattle.ec_positions.specs.Objects.{Object, Objects}
 use Rattle.ec_positions.specs.Positions.{position_of, shard_of}
 
--- an object's position, where there is one
+-- what a position holds of an object, if it is there
 abbrev pub position_if : CodeRows → ℕ → ℕ → Option Object → Option ShardObject
 position_if code unit p None = None
 position_if code unit p (Some o) = Some (position_of code unit p o)

@@ -59,7 +59,7 @@ usage_then m k bytes =
     let object = grows o bytes in
     omega (arith, more, object)
 
--- .. of a command
+-- the usage after an update that puts bytes
 pub usage_after : (m : Objects) (c : Update) → puts_bytes c ≡ true
     → usage (after m c) + length (bytes_in (fin.get m (name_of c))) ≡ usage m + length (bytes_in (object_after c (fin.get m (name_of c))))
 usage_after m (Append name bytes) is = usage_then m name _
@@ -71,7 +71,7 @@ usage_after m (RemoveAttr name attr) is = absurd (false≢true is)
 
 -- ---- an object of these bytes, in place of what was there
 
--- objects take none where there are none
+-- no objects take no bytes
 pub no_usage : usage fin.empty ≡ 0
 no_usage = ap (λ es. sum_by object_usage (map (λ e. e.1) es)) (no_entries _ (sym (fin.len-entries fin.empty) ∙ fin.len-empty (slice_cmp nat_cmp) Object))
 

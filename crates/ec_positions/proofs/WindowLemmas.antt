@@ -106,7 +106,7 @@ overlaid_byte off start n bytes old read x lt begins inside same = elim (cases_l
     turned : off - start ≤ x → x - (off - start) ≡ start + x - off
     turned high = omega (arith, high, begins)
 
--- bytes put into the touched stripes that the object has, which are grown with zeros, give the touched stripes of the object
+-- bytes put into the touched stripes that the object has, grown with zeros, give the touched stripes of the object
 -- with the bytes put into it
 pub window_is : (k unit off there : ℕ) (bytes old : List ℕ) → 0 < k * unit → 0 < length bytes
     → there ≡ min ((off + length bytes - 1) / (k * unit) - off / (k * unit) + 1) (stripe_count k unit (length old) - off / (k * unit))

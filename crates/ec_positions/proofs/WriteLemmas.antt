@@ -77,7 +77,7 @@ grown_byte code unit old p n i some_k some lt = elim (cases_lt i (shard_len code
     behind : (list : List ℕ) → length list ≡ shard_len code.k unit (length old) → shard_len code.k unit (length old) ≤ i → slice_index (resized n list) i ≡ 0
     behind list long past = grind (arith, places)
 
--- a list with the range of another in its place is that other one, where both agree outside
+-- a list with the range of another in its place is that other one, if both agree outside
 patched : (from list : List ℕ) (at len : ℕ) → length from ≡ length list → at + len ≤ length list
     → ((i : ℕ) → i < length list → (i < at) ⊎ (at + len ≤ i) → slice_index from i ≡ slice_index list i)
     → written at (take len (drop at list)) from ≡ list

@@ -8,8 +8,8 @@ use Rattle.ec_positions.specs.Objects.{Object, Objects, bytes_in, attrs_in}
 use Rattle.ec_positions.specs.Updates.{Update, after}
 use Rattle.ec_positions.specs.Refusals.{Refusal, Absent, NoAttr, first_of, refusal_of}
 
--- an update; `get`, an object's bytes; `getattr`, an attribute's value; `stat`, an object's size; `list`, all names with their sizes;
--- `flush`, that what was acknowledged is kept; `scrub`, whether the positions of an object agree
+-- an update; `get` asks for an object's bytes, `getattr` for an attribute's value, `stat` for an object's size, `list` for all names
+-- with their sizes; `flush` asks that what was acknowledged be kept; `scrub` asks whether the positions of an object agree
 pub data Command : Type 0 where
   Updates : (update : Update) → Command
   Get : (name : List ℕ) → Command
@@ -19,8 +19,8 @@ pub data Command : Type 0 where
   Flush : Command
   Scrub : (name : List ℕ) → Command
 
--- `ok` with the text of its second field, which may be empty, and under it names with sizes; `clean`; a refusal; `bad`, which is of
--- a line that spells no command
+-- `ok` with the text of its second field, and under it names with sizes (both may be empty); `clean`; a refusal; `bad`, the answer
+-- to a line that spells no command
 pub data Reply : Type 0 where
   Done : (text : List ℕ) (listing : List (List ℕ × ℕ)) → Reply
   Clean : Reply
@@ -67,7 +67,7 @@ answer_to objects ListObjects = Done (decimal (fin.len objects)) (listing_of obj
 answer_to objects Flush = Done [] []
 answer_to objects (Scrub name) = Clean
 
--- the first if there is no refusal, and else the second of it
+-- the first if there is no refusal, and else what the second makes of it
 abbrev pub unless_refused : {X : Type 0} → Option Refusal → X → (Refusal → X) → X
 unless_refused None accepted refused = accepted
 unless_refused (Some refusal) accepted refused = refused refusal

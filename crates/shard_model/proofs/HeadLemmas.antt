@@ -21,7 +21,7 @@ same_as_itself v = grind (arith, common_steps)
 both_ways : (a b : Version) → is_up_to a b ≡ true → is_up_to b a ≡ true → is_same a b ≡ true
 both_ways a b p q = grind (arith, common_steps)
 
--- what is above t stays where the part up to t is left out
+-- what is above t stays if the part up to t is left out
 stays_after : (t v : Version) (ns : List Logged) → is_up_to v t ≡ false → list_any (is_at v) ns ≡ true → list_any (is_at v) (after version_of t ns) ≡ true
 stays_after t v [] above any = any
 stays_after t v (n ∷ ns) above any =

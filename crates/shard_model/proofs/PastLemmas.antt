@@ -25,7 +25,7 @@ goes_on g (step ∷ first) more s t is =
       | false ↦ λ e. absurd (steps.none_some t e)
     ] is
 
--- the first of the steps that lead on fits, and the others lead on from where it leads
+-- the first of the steps that lead on fits, and the others lead on from the state that it leads to
 pub first_step : (g : Geometry) (s : Replay) (step : Step) (more : List Step) (t : Replay) → replay_from g s (step ∷ more) ≡ Some t
     → (fits g (state_of g s) step ≡ true) × (replay_from g (replay_after g s step) more ≡ Some t)
 first_step g s step more t is =

@@ -83,7 +83,7 @@ is_true : (b : Bool) → T b → b ≡ true
 is_true true t = refl
 is_true false t = absurd t
 
--- the pairs of a map ascend, and where its values are short, so are theirs
+-- the pairs of a map ascend, and if its values are short, so are theirs
 pub entries_ascend : (m : Named (List ℕ)) → fin.is_sorted by_name (fin.entries m) ≡ true
 entries_ascend m = is_true _ (fin.entries_sorted m)
 

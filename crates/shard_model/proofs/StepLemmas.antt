@@ -177,7 +177,7 @@ module _ (g : Geometry) (positive : 0 < g.k * g.unit) where
         | false ↦ tt
       ]
 
-  -- the tail's part stays where the list is cut behind it, or grows
+  -- the tail's part stays if the list is cut behind it, or grows
   pub cut-cut : (t v : Version) (es : List Entry) → is_up_to t v ≡ true → up_to entry_version t (up_to entry_version v es) ≡ up_to entry_version t es
   cut-cut t v [] le = refl
   cut-cut t v (e ∷ es) le =

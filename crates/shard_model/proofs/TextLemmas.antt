@@ -1,4 +1,4 @@
--- Bytes are one list of steps, or have one first place where none is spelled.
+-- Bytes are one list of steps, or have one first place at which no step is spelled.
 use Rattle.std.proofs.Common.{◌≡◌, ◌⊎◌, inl, inr, ◌≤◌, ℕ, zero, suc, List, [], ◌∷◌, ◌++◌, length, length-append, sym, ap, subst, ◌∙◌, refl, Some, None, arith, append_assoc}
 use Rattle.std.specs.List.{AllByRecursion}
 use Rattle.shard_model.specs.Steps.{Back, Firm, Trim, Started, Partial, Put, Drop, Clear, Reset, Step, Log, Control, Recover}
@@ -28,7 +28,7 @@ one_reading text xs ys p q = same_steps xs ys p.0 q.0 (sym p.1 ∙ q.1)
 abbrev StopsAt : List ℕ → Type 0
 StopsAt rest = (step : Step) (after : List ℕ) → BeginsWith rest step after → ⊥
 
--- two texts that stop are the same where they stand behind steps with the same bytes
+-- two texts that stop are the same if they stand behind steps with the same bytes
 same_stop : (xs ys : List Step) (r s : List ℕ) → AllByRecursion IsWritable xs → AllByRecursion IsWritable ys → StopsAt r → StopsAt s
     → steps_bytes xs ++ r ≡ steps_bytes ys ++ s → (xs ≡ ys) × (r ≡ s)
 same_stop [] [] r s p q one two e = (refl, e)
@@ -48,7 +48,7 @@ append-none : (xs : List ℕ) → xs ++ [] ≡ xs
 append-none [] = refl
 append-none (x ∷ xs) = ap (λ ys. x ∷ ys) (append-none xs)
 
--- bytes of steps have no place where none is spelled
+-- bytes of steps have no place at which no step is spelled
 pub no_bad : (text : List ℕ) (steps : List Step) (at : ℕ) → AreSteps text steps → IsFirstBad text at → ⊥
 no_bad text steps at are bad =
     let same = same_stop bad.front steps bad.rest [] bad.spelled are.0 bad.none empty_stops (sym bad.parts ∙ are.1 ∙ sym (append-none (steps_bytes steps))) in

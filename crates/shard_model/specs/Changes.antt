@@ -55,7 +55,7 @@ abbrev pub fits_extent : Geometry → ℕ → ℕ → ℕ → Bool
 fits_extent g size at len =
     nat_le size max_size && (at % g.unit == 0 && (len % g.unit == 0 && nat_le (at + len) (shard_len g size)))
 
--- the change may be made to the object, or where there is none
+-- the change may be made to the object, or without one
 abbrev pub fits_change : Geometry → Change → Option ShardObject → Bool
 fits_change g (Write fresh size at bytes) None = fresh == 1 && fits_extent g size at (length bytes)
 fits_change g (Write fresh size at bytes) (Some o) =

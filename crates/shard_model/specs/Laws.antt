@@ -21,12 +21,12 @@ pub record MayGoOn (g : Geometry) (s : Replay) (step : Step) : Type 0 where
 abbrev pub UndoingIsReplaying : Type 0
 UndoingIsReplaying = (g : Geometry) (s : Replay) (step : Step) → MayGoOn g s step → state_of g (replay_after g s step) ≡ state_after g (state_of g s) step
 
--- steps that go on after others are replayed from where these led
+-- steps that go on after others are replayed from the state that those led to
 abbrev pub ReplayGoesOn : Type 0
 ReplayGoesOn = (g : Geometry) (first more : List Step) (s t : Replay) → replay_from g s first ≡ Some t
     → replay_from g s (first ++ more) ≡ replay_from g t more
 
--- of steps that lead on, the first fits, and the others lead on from where it leads
+-- of steps that lead on, the first fits, and the others lead on from the state that it leads to
 abbrev pub FirstStepFits : Type 0
 FirstStepFits = (g : Geometry) (s t : Replay) (step : Step) (steps : List Step) → replay_from g s (step ∷ steps) ≡ Some t
     → (fits g (state_of g s) step ≡ true) × (replay_from g (replay_after g s step) steps ≡ Some t)
@@ -80,7 +80,7 @@ GoingBackKeepsThePast = (g : Geometry) (s : Replay) (w v : Version) → MayGoOn 
 abbrev pub StepsAreRead : Type 0
 StepsAreRead = IsReadingOf read_step step_bytes IsWritable
 
--- bytes are one list of steps, or have one first place where no step is spelled, and never both
+-- bytes are one list of steps, or have one first place at which no step is spelled, and never both
 pub record IsReadOneWay (text : List ℕ) : Type 0 where
   pub either : ((steps : List Step) × AreSteps text steps) ⊎ ((at : ℕ) × IsFirstBad text at)
   pub one_list : (xs ys : List Step) → AreSteps text xs → AreSteps text ys → xs ≡ ys
@@ -107,7 +107,7 @@ pub record StepLengths : Type 0 where
   pub any : (g : Geometry) (s : State) (step : Step) → 0 < g.k * g.unit → IsWritable step → fits g s step ≡ true
       → length (step_bytes step) ≤ max_step_rest + shard_len g max_size
 
--- an object of any shard fits where it is brought to one that is being filled, and is what is brought
+-- an object of any shard fits if it is brought to one that is being filled, and is what is brought
 pub record MayBeBrought (g : Geometry) (name : List ℕ) (o : ShardObject) : Type 0 where
   pub fit : (s : State) → s.partial ≡ true → fits g s (Recover (Put name o.size o.bytes (fin.entries o.attrs))) ≡ true
   pub same : brought o.size o.bytes (fin.entries o.attrs) ≡ o
@@ -115,7 +115,7 @@ pub record MayBeBrought (g : Geometry) (name : List ℕ) (o : ShardObject) : Typ
 abbrev pub HeldObjectsMayBeBrought : Type 0
 HeldObjectsMayBeBrought = (g : Geometry) (name : List ℕ) (o : ShardObject) → IsHeld g o → MayBeBrought g name o
 
--- worked examples, each of which computes. Two data chunks in units of 32 bytes: the first record of a new shard, and what
+-- worked examples: each of them computes. Two data chunks in units of 32 bytes: the first record of a new shard, and what
 -- stands in the three slots after `full a 0102` in epoch 2
 abbrev pub example_step : List ℕ → Step
 example_step bytes =

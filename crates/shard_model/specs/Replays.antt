@@ -1,4 +1,4 @@
--- What steps come to where entries are replayed from a base, and nothing is ever undone. Source: this project.
+-- What steps come to if entries are replayed from a base and nothing is ever undone. Source: this project.
 use Rattle.std.specs.Prelude.{◌≡◌, ◌⊎◌, ℕ, Bool, true, false, cond, List, [], ◌∷◌, ◌++◌, Option, Some, None}
 use Rattle.std.specs.List.{AllByRecursion, list_any}
 use Rattle.std.specs.FinMap as fin
@@ -9,8 +9,8 @@ use Rattle.shard_model.specs.Changes.{Settled, fits_change}
 use Rattle.shard_model.specs.Steps.{Entry, Back, Firm, Trim, Started, Partial, Put, Drop, Clear, Reset, Step, Log, Control, Recover}
 use Rattle.shard_model.specs.States.{Phase, Unbegun, phase_after, State, Logged, version_of, effect, logged, settled, fits, brought}
 
--- `base`: the objects at the version `base_version`; `past`: checkpointed entries, which the base holds already; `entries`:
--- those after it
+-- `base`: the objects at the version `base_version`; `past`: checkpointed entries. The base holds
+-- them already; `entries`: those after it
 pub record Replay : Type 0 where
   pub phase : Phase
   pub base : ShardObjects
@@ -101,16 +101,16 @@ fresh_replay = record {
   partial = false;
 }
 
--- the replay of a list of steps, from one on; there is one only where each step fits
+-- the replay that a list of steps leads to from another; it is there only if each step fits
 abbrev pub replay_from : Geometry → Replay → List Step → Option Replay
 replay_from g s [] = Some s
 replay_from g s (step ∷ steps) = cond (fits g (state_of g s) step) (replay_from g (replay_after g s step) steps) None
 
--- .. from the start
+-- the replay of a list of steps from the start
 abbrev pub replay_of : Geometry → List Step → Option Replay
 replay_of g steps = replay_from g fresh_replay steps
 
--- the versions of entries rise, the first is above v
+-- the versions of entries rise, and the first is above v
 abbrev pub AreRising : Version → List Entry → Type 0
 AreRising v [] = Unit {0}
 AreRising v (e ∷ es) = (is_up_to e.version v ≡ false) × AreRising e.version es

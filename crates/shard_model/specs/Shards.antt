@@ -1,4 +1,4 @@
--- A shard's geometry and state as one value, which is stored as numbers and lists. Source: this project.
+-- A shard's geometry and state as one value. It is stored as numbers and lists. Source: this project.
 use Rattle.std.specs.Prelude.{◌≡◌, ℕ, zero, suc, Bool, List, [], Option, Some, None, refl}
 use Rattle.std.specs.Ordering.{nat_cmp}
 use Rattle.std.specs.Cmp.Lexicographic.{slice_cmp}

@@ -17,7 +17,7 @@ name_bytes name = length name ∷ name
 abbrev pub pair_bytes : List ℕ × List ℕ → List ℕ
 pair_bytes attr = name_bytes attr.0 ++ counted_bytes attr.1
 
--- how many attributes there are in a byte, and each of them
+-- the number of the attributes in a byte, and each of them
 abbrev pub pairs_bytes : List (List ℕ × List ℕ) → List ℕ
 pairs_bytes attrs = length attrs ∷ flat_map pair_bytes attrs
 
@@ -115,7 +115,7 @@ BeginsWith text step rest = IsWritable step × (text ≡ step_bytes step ++ rest
 abbrev pub AreSteps : List ℕ → List Step → Type 0
 AreSteps text steps = AllByRecursion IsWritable steps × (text ≡ steps_bytes steps)
 
--- the first place where no step is spelled: steps stand before it, and what follows is not the end and begins with none
+-- the first place at which no step is spelled: steps stand before it, and the text does not end there and begins with no step there
 pub record IsFirstBad (text : List ℕ) (at : ℕ) : Type 0 where
   pub front : List Step
   pub rest : List ℕ

@@ -1,4 +1,4 @@
--- Steps as numbers and lists, by which two of them are told apart. Source: this project.
+-- Steps as numbers and lists: these tell two of them apart. Source: this project.
 use Rattle.std.proofs.Common.{◌≡◌, ◌⊎◌, inl, inr, ℕ, List, refl}
 use Rattle.std.specs.Coded.{Coded, code_by, coded×, coded⊎, coded_ℕ, coded_list}
 use Rattle.ec_model.specs.Versions.{Version, version_code}
@@ -13,7 +13,7 @@ coded_bytes = coded_list coded_ℕ
 abbrev pub ChangeParts : Type 0
 ChangeParts = ((ℕ × ℕ) × (ℕ × List ℕ)) ⊎ ((ℕ × List ℕ) ⊎ ((List ℕ × List ℕ) ⊎ (List ℕ ⊎ ℕ)))
 
--- .. to its parts, and back
+-- a change to its parts, and back
 abbrev pub change_parts : Change → ChangeParts
 change_parts (Write fresh size at bytes) = inl ((fresh, size), (at, bytes))
 change_parts (Replace size bytes) = inr (inl (size, bytes))

@@ -20,8 +20,8 @@ pub data ControlStep : Type 0 where
   Started : (epoch : ℕ) → ControlStep
   Partial : ControlStep
 
--- an object as it is elsewhere, with its attributes in the order of their names; one that is not there; none at all; the
--- shard is whole, at this version and epoch
+-- an object is as it is elsewhere, with its attributes in the order of their names; no object has this name; there are no
+-- objects; the shard is whole, at this version and epoch
 pub data RecoveryStep : Type 0 where
   Put : (name : List ℕ) (size : ℕ) (bytes : List ℕ) (attrs : List (List ℕ × List ℕ)) → RecoveryStep
   Drop : (name : List ℕ) → RecoveryStep

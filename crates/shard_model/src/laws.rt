@@ -6,12 +6,12 @@ pub fn undoing_is_replaying()
     ensures { UndoingIsReplaying }
 {}
 
-/// Steps that go on after others are replayed from where these led.
+/// Steps that go on after others are replayed from the state that those led to.
 pub fn replay_goes_on()
     ensures { ReplayGoesOn }
 {}
 
-/// Of steps that lead on, the first fits, and the others lead on from where it leads.
+/// Of steps that lead on, the first fits, and the others lead on from the state that it leads to.
 pub fn first_step_fits()
     ensures { FirstStepFits }
 {}
@@ -56,7 +56,7 @@ pub fn steps_are_read()
     ensures { StepsAreRead }
 {}
 
-/// Bytes are one list of steps, or have one first place where none is spelled.
+/// Bytes are one list of steps, or have one first place at which no step is spelled.
 pub fn bytes_are_read_one_way()
     ensures { BytesAreReadOneWay }
 {}
@@ -66,7 +66,7 @@ pub fn step_lengths()
     ensures { StepLengths }
 {}
 
-/// An object of any shard fits where it is brought to one that is being filled.
+/// An object of any shard fits if it is brought to one that is being filled.
 pub fn held_objects_may_be_brought()
     ensures { HeldObjectsMayBeBrought }
 {}

@@ -12,7 +12,7 @@ pub both_true : (b c : Bool) → b ≡ true → c ≡ true → (b && c) ≡ true
 both_true true c p q = q
 both_true false c p q = absurd (false≢true p)
 
--- the first is below all of the others where it is below the second
+-- the first is below all of the others if it is below the second
 first_below : (e f : Attr) (es : List Attr) → is_lt (by_name e.0 f.0) ≡ true → map.is_sorted by_name (f ∷ es) ≡ true → below_all by_name e.0 (f ∷ es) ≡ true
 first_below e f es lt sorted =
     both_true (is_lt (by_name e.0 f.0)) (below_all by_name e.0 es) lt

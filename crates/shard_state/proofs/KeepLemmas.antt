@@ -1,4 +1,4 @@
--- A state keeps what it rests on where the log's bounds move or its objects are filled in.
+-- A state keeps what it rests on if the log's bounds move or its objects are filled in.
 use Rattle.std.proofs.Common.{◌≡◌, ◌≤◌, ◌&&◌, ◌==◌, nat_le, length, arith, ℕ, zero, suc, Bool, true, false, cond, List, [], ◌∷◌, map, drop, refl, sym, ap, subst, ◌∙◌, Option, Some, None, is_some}
 use Rattle.std.specs.List.{AllByRecursion, list_all}
 use Rattle.std.proofs.lemmas.Bool.{cond-false, true≢false, and_parts, leb-true, eqb-true}
@@ -76,7 +76,7 @@ never_empty : (n : Logged) (ns : List Logged) → n ∷ ns ≡ [] → ⊥
 unfolding has_one
 never_empty n ns e = true≢false (ap has_one e)
 
--- with no log there is nothing but the objects
+-- without a log a state rests on its objects alone
 pub no_log_kept : (g : Geometry) (places : Places) (m : ShardObjects) → AreHeld g m → IsKept g places m []
 no_log_kept g places m held = record { held = held; sound = tt; placed = tt }
 

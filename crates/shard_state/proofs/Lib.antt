@@ -1,14 +1,11 @@
 pub mod AscendLemmas
 pub mod AttrLemmas
 pub mod CopyLemmas
-pub mod DecodingLemmas
-pub mod EncodingLemmas
 pub mod HoldLemmas
 pub mod KeepLemmas
 pub mod LogLemmas
 pub mod MapLemmas
 pub mod OrderLemmas
-pub mod PairLemmas
 pub mod PlaceLemmas
 pub mod SoundLemmas
 pub mod SpotLemmas

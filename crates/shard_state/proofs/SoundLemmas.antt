@@ -87,7 +87,7 @@ some_there m k is =
       | inr ge ↦ absurd (false≢true (sym (ap (λ n. is_some (fin.get n k)) (fin.empty_of_len m (omega (arith, ge))) ∙ ap is_some (fin.get-empty _ k)) ∙ is))
     ]
 
--- where an attribute was taken away, there is room for it
+-- if an attribute was taken away, there is room for it
 removed_sound : (g : Geometry) (room : ℕ) (attr : List ℕ) (o : ShardObject) → IsHeld g o → is_some (fin.get o.attrs attr) ≡ true → max_attrs ≤ room
     → (before : Option (List ℕ)) → fin.get o.attrs attr ≡ before → IsSound g room (Attr attr before) (Some (record { bytes = o.bytes; size = o.size; attrs = fin.remove o.attrs attr }))
 removed_sound g room attr o held is has None old = tt

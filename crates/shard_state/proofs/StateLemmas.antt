@@ -1,4 +1,4 @@
--- A state keeps what it rests on where an entry comes or goes.
+-- A state keeps what it rests on if an entry comes or goes.
 use Rattle.std.proofs.Common.{◌≡◌, ℕ, ◌*◌, ◌<◌, Bool, true, false, cond, List, [], ◌∷◌, ◌++◌, refl, sym, ap, subst, ◌∙◌, Option, Some, is_some}
 use Rattle.std.specs.List.{AllByRecursion}
 use Rattle.std.proofs.lemmas.Bool.{cond-true}
@@ -23,7 +23,7 @@ some_cond : {X : Type 0} (b : Bool) (x : X) (o : Option X) → is_some o ≡ tru
 some_cond true x o h = refl
 some_cond false x o h = h
 
--- a place stays where another is changed
+-- a place stays if another is changed
 still_placed : (places : Places) (k : List ℕ) (x : Option ShardObject) (rs : List Recorded) → AllByRecursion (λ r. HasPlace places r.logged.name) rs
     → AllByRecursion (λ r. HasPlace (fin.insert places k x) r.logged.name) rs
 still_placed places k x [] all = tt
@@ -47,7 +47,7 @@ front_of : {X : Type 0} (P : X → Type 0) (xs : List X) (x : X) → AllByRecurs
 front_of P [] x all = tt
 front_of P (y ∷ xs) x all = (all.0, front_of P xs x all.1)
 
--- where places were made, and nothing else, the state keeps what it rests on
+-- if places were made, and nothing else was done, the state keeps what it rests on
 pub made_kept : (g : Geometry) (old made : Places) (name : List ℕ) (rs : List Recorded) → HasMade name old made → IsKept g old (inside old) rs → IsKept g made (inside made) rs
 made_kept g old made name rs has kept =
     subst (λ m. IsKept g made m rs) (sym has.same) (record { held = kept.held; sound = kept.sound; placed = all_stay old made has.stays rs kept.placed })

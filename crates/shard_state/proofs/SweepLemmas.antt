@@ -38,7 +38,7 @@ apart_placed old new name (r ∷ rs) swept none all =
     let parts = neither (bytes_eq r.logged.name name) (list_any (λ r. bytes_eq r.logged.name name) rs) none in
     (swept r.logged.name (sym (texts_ties r.logged.name name) ∙ parts.0) all.0, apart_placed old new name rs swept parts.1 all.1)
 
--- what a state rests on stays where empty places go that its log does not name
+-- what a state rests on stays if empty places go that its log does not name
 pub swept_kept : (g : Geometry) (old new : Named (Option ShardObject)) (rs : List Recorded) → inside new ≡ inside old
     → (AllByRecursion (λ r. HasPlace old r.logged.name) rs → AllByRecursion (λ r. HasPlace new r.logged.name) rs) → IsKept g old (inside old) rs → IsKept g new (inside new) rs
 swept_kept g old new rs same stay kept =

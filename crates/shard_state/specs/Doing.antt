@@ -8,17 +8,6 @@ use Rattle.shard_model.specs.States.{State, Unbegun}
 use Rattle.ec_model.specs.Versions.{zero_version}
 use Rattle.std.specs.FinMap as map
 
--- the change of an entry; of another step none that counts
-abbrev pub change_in : Step → Change
-change_in (Log e) = e.change
-change_in (Control control) = Remove
-change_in (Recover recovery) = Remove
-
-abbrev pub is_entry : Step → Bool
-is_entry (Log e) = true
-is_entry (Control control) = false
-is_entry (Recover recovery) = false
-
 -- to put an attribute back there has to be room for one
 abbrev pub HasRoomFor : Change → ℕ → Type 0
 HasRoomFor (Write fresh size at bytes) room = Unit {0}

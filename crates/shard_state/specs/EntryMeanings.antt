@@ -1,19 +1,11 @@
 -- What the code's entries stand for. Source: this project.
 use Rattle.shard_model.specs.Changes as model
 use Rattle.shard_model.specs.States as states
-use Rattle.shard_state.specs.declared.entry.Kind.TheVariants as kinds
-use Rattle.shard_state.specs.declared.entry.Kind.{Kind}
+use Rattle.shard_steps.specs.StepMeanings.{kind_of}
 use Rattle.shard_state.specs.declared.entry.Undo.TheVariants as undos
 use Rattle.shard_state.specs.declared.entry.Undo.{Undo}
 use Rattle.shard_state.specs.declared.entry.Logged.{Logged}
 use Rattle.shard_state.specs.declared.entry.Entry.{Entry}
-
-abbrev pub kind_of : Kind → model.Kind
-kind_of kinds.Write = model.OfWrite
-kind_of kinds.Replace = model.OfReplace
-kind_of kinds.Remove = model.OfRemove
-kind_of kinds.SetAttr = model.OfSetAttr
-kind_of kinds.RemoveAttr = model.OfRemoveAttr
 
 abbrev pub undo_of : Undo → model.Undo
 undo_of undos.Fresh = model.Fresh

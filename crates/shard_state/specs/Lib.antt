@@ -1,13 +1,11 @@
 pub mod Copies
 pub mod Doing
 pub mod EntryMeanings
-pub mod Faults
 pub mod Inner
 pub mod Phases
 pub mod Places
 pub mod Records
 pub mod Sound
 pub mod Spots
-pub mod StepMeanings
 pub mod Totals
 pub mod Ways

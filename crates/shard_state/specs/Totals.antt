@@ -29,7 +29,7 @@ pub record AreTotals (places : List (List ℕ × Option ShardObject)) (n total :
   pub count : n ≡ sum_by one (values_of places)
   pub used : total ≡ sum_by load (values_of places)
 
--- where the names after one begin
+-- the place at which the names after one begin
 abbrev pub start_after : Option (List ℕ) → Bound (List ℕ)
 start_after None = Unbounded
 start_after (Some name) = Excluded name

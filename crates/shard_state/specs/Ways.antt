@@ -22,7 +22,7 @@ pub record IsPartWay (cut : ℕ) (before now : Shard) : Type 0 where
   pub front : take cut now.state.log ≡ take cut before.state.log
   pub objects : undone before.geometry now.state.objects (drop cut now.state.log) ≡ undone before.geometry before.state.objects (drop cut before.state.log)
 
--- where steps lead to this state, its objects are now those at the version, and it is the state of the replay that went back
+-- if steps lead to this state, its objects are now those at the version, and it is the state of the replay that went back
 abbrev pub GivesThePast : Shard → Shard → Version → Type 0
 GivesThePast before now v = (steps : List Step) (s : Replay) → replay_of before.geometry steps ≡ Some s → before.state ≡ state_of before.geometry s
     → (now.state.objects ≡ objects_at before.geometry s v) × ((now.state.head ≡ v) × (now.state ≡ state_of before.geometry (replay_after before.geometry s (Control (Back v)))))

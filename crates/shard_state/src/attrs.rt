@@ -9,8 +9,8 @@ ghost use Rattle.shard_model.specs.Listings.{attr_usage};
 ghost use Rattle.shard_state.specs.Spots.{IsSpot, without};
 ghost use Rattle.shard_state.specs.Totals.{most};
 
-use crate::pairs::Pairs;
 use ec_words::{Bytes, Name, NoMemory};
+use shard_steps::Pairs;
 use std::alloc::Global;
 use std::cmp::Ordering;
 use std::marker::Model;
@@ -63,7 +63,7 @@ impl Attrs {
         if found { Some(&self.list[i].1) } else { None }
     }
 
-    /// The name with this index, in ascending order. `None` exactly where there are no more than `i`.
+    /// The name with this index, in ascending order. `None` exactly if the attributes are no more than `i`.
     pub fn name_at(&self, i: usize) -> Option<&Name>
         ensures { option_copied result ≡ slice_get (map.keys self.now) i }
     {
@@ -74,7 +74,7 @@ impl Attrs {
         }
     }
 
-    /// The value of the name with this index. `None` exactly where there are no more than `i`.
+    /// The value of the name with this index. `None` exactly if the attributes are no more than `i`.
     pub fn value_at(&self, i: usize) -> Option<&Bytes>
         ensures { option_copied result ≡ slice_get (map.values self.now) i }
     {
@@ -100,7 +100,7 @@ impl Attrs {
         Ok(Pairs::of(list))
     }
 
-    /// The bytes of all names and values, or `u64::MAX` if there are more.
+    /// The number of the bytes of all names and values, or `u64::MAX` if that is less.
     pub fn usage(&self) -> u64
         ensures { result ≡ min (sum_by attr_usage (map.entries self.now)) (2 ^ 64 - 1) }
     {
@@ -150,7 +150,7 @@ impl Attrs {
     }
 }
 
-/// The bytes of names and values, or `u64::MAX` where there are more.
+/// The number of the bytes of names and values, or `u64::MAX` if that is less.
 fn pairs_usage(list: &[(Name, Bytes)]) -> u64
     ensures { result ≡ min (sum_by attr_usage list.now) most }
 {
@@ -251,7 +251,7 @@ fn give_pair(list: &mut Vec<(Name, Bytes)>, spare: SpareAttrs, name: Name, value
     *list = all;
 }
 
-/// Room for attributes. A contract sees for how many.
+/// Room for attributes. A contract sees their number.
 #[derive(Drop)]
 pub(crate) struct SpareAttrs {
     list: Vec<(Name, Bytes)>,
@@ -269,7 +269,7 @@ impl Model for SpareAttrs {
 }
 
 impl SpareAttrs {
-    /// Room for none, which takes no memory.
+    /// Room for none. It takes no memory.
     pub fn none(alloc: Global) -> SpareAttrs {
         SpareAttrs {
             list: Vec::new(alloc),

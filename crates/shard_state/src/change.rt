@@ -6,16 +6,16 @@ ghost use Rattle.shard_model.specs.Limits.{max_attrs};
 ghost use Rattle.shard_model.specs.Objects.{MayBeHeld, put};
 ghost use Rattle.shard_model.specs.Changes.{Fresh, Extent, Attr, whole_undo, fits_change, restored, bytes_of, attrs_of, resized, written};
 ghost use Rattle.shard_state.specs.EntryMeanings.{undo_of};
-ghost use Rattle.shard_state.specs.Doing.{write_undo, DoesChange, change_in, is_entry};
+ghost use Rattle.shard_state.specs.Doing.{write_undo, DoesChange};
+ghost use Rattle.shard_steps.specs.StepMeanings.{change_in, is_entry, step_of};
 ghost use Rattle.shard_state.specs.Sound.{IsSound};
-ghost use Rattle.shard_state.specs.StepMeanings.{step_of};
 
 use crate::attrs::{Attrs, SpareAttrs};
 use crate::entry::Undo;
 use crate::held::Held;
 use crate::limits::MAX_ATTRS;
-use crate::step::Step;
 use ec_words::{Bytes, Geometry, Name, NoMemory};
+use shard_steps::Step;
 use std::alloc::Global;
 
 /// An object after a change, if there is one, and what takes the change back. The spare has room for an attribute that is put
@@ -183,7 +183,7 @@ fn replace(
     })
 }
 
-/// A copy of an object's attributes; none where there is no object.
+/// A copy of an object's attributes; no attributes if there is no object.
 fn attrs_copy(alloc: Global, held: &Option<Held>) -> Result<Attrs, NoMemory>
     ensures { IfOk result (λ attrs. attrs ≡ attrs_of held.now) }
 {

@@ -10,7 +10,7 @@ use crate::record::Record;
 use ec_words::{Bytes, NoMemory};
 use std::alloc::Global;
 
-/// What lies in a place once more.
+/// A copy of what lies in a place.
 pub(crate) fn copy_place(alloc: Global, place: &Option<Held>) -> Result<Option<Held>, NoMemory>
     ensures { IfOk result (λ copy. copy ≡ place.now) }
 {
@@ -35,7 +35,7 @@ fn copy_value(alloc: Global, value: &Option<Bytes>) -> Result<Option<Bytes>, NoM
     }
 }
 
-/// What takes an entry back, once more.
+/// A copy of what takes an entry back.
 fn copy_undo(alloc: Global, undo: &Undo) -> Result<Undo, NoMemory>
     ensures { IfOk result (λ copy. undo_of copy ≡ undo_of undo.now) }
 {
@@ -62,7 +62,7 @@ fn copy_undo(alloc: Global, undo: &Undo) -> Result<Undo, NoMemory>
     }
 }
 
-/// What an entry did, once more.
+/// A copy of what an entry did.
 fn copy_logged(alloc: Global, what: &Logged) -> Result<Logged, NoMemory>
     ensures { IfOk result (λ copy. copy ≡ what.now) }
 {
@@ -75,7 +75,7 @@ fn copy_logged(alloc: Global, what: &Logged) -> Result<Logged, NoMemory>
     })
 }
 
-/// An entry once more, with a spare that has room for as many attributes.
+/// A copy of an entry, with a spare that has room for as many attributes.
 fn copy_record(alloc: Global, from: &Record) -> Result<Record, NoMemory>
     ensures { IfOk result (λ copy. IsCopy (recorded from.now) (recorded copy)) }
 {
@@ -86,7 +86,7 @@ fn copy_record(alloc: Global, from: &Record) -> Result<Record, NoMemory>
     Ok(Record { entry, spare })
 }
 
-/// The entries once more, in order.
+/// A copy of the entries, in order.
 pub(crate) fn copy_log(alloc: Global, log: &[Record]) -> Result<Vec<Record>, NoMemory>
     ensures { IfOk result (λ copy. AreCopies (map recorded log.now) (map recorded copy.items)) }
 {

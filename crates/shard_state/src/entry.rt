@@ -1,16 +1,7 @@
 //! The entries of the log.
 use crate::held::Held;
 use ec_words::{Bytes, Name, Version};
-
-/// What an entry did.
-#[derive(Clone, Copy)]
-pub enum Kind {
-    Write,
-    Replace,
-    Remove,
-    SetAttr,
-    RemoveAttr,
-}
+use shard_steps::Kind;
 
 /// What takes an entry back.
 #[derive(Drop)]

@@ -1,22 +1,9 @@
 //! Why a call did not succeed.
 ghost use Rattle.std.specs.Prelude.{◌≡◌};
-ghost use Rattle.shard_state.specs.declared.fault.Unread.TheVariants.{NoMemory as UnreadNoMemory};
 ghost use Rattle.shard_state.specs.declared.fault.StepFault.TheVariants.{NoMemory as StepNoMemory};
 
 use ec_words::{NoMemory, Version};
-use std::alloc::{AllocError, AllocFailed};
 use thiserror::Error;
-
-/// Why a text was not read as steps.
-#[derive(Clone, Copy, Debug, PartialEq, Eq, Error)]
-pub enum StepsFault {
-    /// Steps stand before `at`, and there no step is spelled.
-    #[error("no step at {at}")]
-    BadStep { at: usize },
-    /// Memory ran out.
-    #[error("out of memory")]
-    NoMemory,
-}
 
 /// Why a step is not done.
 #[derive(Clone, Copy, Debug, PartialEq, Eq, Error)]
@@ -46,21 +33,4 @@ pub enum UndoFault {
     /// Memory ran out.
     #[error("out of memory")]
     NoMemory,
-}
-
-/// Why the front of a text was not read.
-#[derive(Clone, Copy)]
-pub(crate) enum Unread {
-    /// The text does not begin with what was asked for.
-    NoStep,
-    /// Memory ran out.
-    NoMemory,
-}
-
-impl From<NoMemory> for Unread {
-    ghost from_gives = { λ _ fault. fault ≡ UnreadNoMemory };
-
-    fn from(_: NoMemory) -> Unread {
-        Unread::NoMemory
-    }
 }

@@ -9,16 +9,15 @@ ghost use Rattle.shard_model.specs.Limits.{max_attrs, max_size, max_value};
 ghost use Rattle.shard_model.specs.Changes.{fits_change, fits_extent, Write, Replace, SetAttr, RemoveAttr};
 ghost use Rattle.shard_model.specs.States.{are_attrs};
 ghost use Rattle.ec_model.specs.Stripes.{shard_len};
-ghost use Rattle.shard_state.specs.Doing.{change_in, is_entry};
-ghost use Rattle.shard_state.specs.StepMeanings.{step_of};
+ghost use Rattle.shard_steps.specs.StepMeanings.{change_in, is_entry, step_of};
 
 use crate::change::bytes_of_size;
 use crate::held::Held;
 use crate::limits::{MAX_ATTRS, MAX_SIZE, MAX_VALUE};
-use crate::step::Step;
 use ec_words::{Bytes, Geometry, Name};
+use shard_steps::Step;
 
-/// Whether an entry's change may be made to an object, or where there is none.
+/// Whether an entry's change may be made to an object, or without one.
 pub(crate) fn fits_entry(g: Geometry, step: &Step, held: Option<&Held>) -> bool
     requires { is_entry (step_of step.now) ≡ true }
     ensures { result ≡ fits_change (record { k = g.k; unit = g.unit }) (change_in (step_of step.now)) (option_copied held.entry) }

@@ -1,6 +1,6 @@
 //! How far the steps of a shard have come.
 
-/// No step yet; a base alone; under way.
+/// There was no step yet; there is a base alone; the shard is under way.
 #[derive(Clone, Copy)]
 pub(crate) enum Phase {
     Unbegun,

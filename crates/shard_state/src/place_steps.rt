@@ -3,13 +3,13 @@ ghost use Rattle.std.specs.Prelude.{◌≡◌, ◌≤◌, bytes_eq, false, lengt
 ghost use Rattle.std.specs.FinMap as map;
 ghost use Rattle.shard_model.specs.Objects.{MayBeHeld, put};
 ghost use Rattle.shard_model.specs.Changes.{fits_change, changed, restored, undo_of as undo_of_change};
-ghost use Rattle.shard_state.specs.Doing.{change_in, is_entry, HasRoomFor};
+ghost use Rattle.shard_state.specs.Doing.{HasRoomFor};
+ghost use Rattle.shard_steps.specs.StepMeanings.{change_in, is_entry, step_of};
 ghost use Rattle.shard_state.specs.EntryMeanings.{undo_of};
 ghost use Rattle.shard_state.specs.Places.{joined, inside, HasMade};
 ghost use Rattle.std.specs.List.{AllByRecursion, list_any};
 ghost use Rattle.shard_state.specs.Records.{recorded};
 ghost use Rattle.shard_state.specs.Sound.{IsSound, HasPlace};
-ghost use Rattle.shard_state.specs.StepMeanings.{step_of};
 
 use crate::attrs::SpareAttrs;
 use crate::change::{apply_change, taken_back};
@@ -17,8 +17,8 @@ use crate::entry::Undo;
 use crate::log::is_named;
 use crate::places::Places;
 use crate::record::Record;
-use crate::step::Step;
 use ec_words::{Geometry, Name, NoMemory};
+use shard_steps::Step;
 use std::alloc::Global;
 
 /// Nothing lies in the place of a name, if it has one.
@@ -30,7 +30,7 @@ pub(crate) fn empty_place(places: &mut Places, name: &Name)
     }
 }
 
-/// Makes a place for a name where there is none; what lies in the others stays.
+/// Makes a place for a name that has none; what lies in the others stays.
 pub(crate) fn make_place(places: &mut Places, alloc: Global, name: &Name) -> Result<(), NoMemory>
     ensures made { OnOk result (HasMade name.now places.old places.new) }
     ensures unchanged { OnErr result (places.new ≡ places.old) }

@@ -45,7 +45,7 @@ impl Model for Places {
 }
 
 impl Places {
-    /// No places, which take no memory.
+    /// No places. They take no memory.
     pub fn new(alloc: Global) -> Places
         ensures { result ≡ map.empty }
     {
@@ -88,7 +88,7 @@ impl Places {
         self.slots.get(name).is_some()
     }
 
-    /// Makes an empty place where there is none.
+    /// Makes an empty place for a name that has none.
     pub fn make(&mut self, name: Name) -> Result<(), NoMemory>
         requires { map.get self.old name ≡ None }
         ensures ok { OnOk result (self.new ≡ map.insert self.old name None) }
@@ -117,7 +117,7 @@ impl Places {
         }
     }
 
-    /// Takes the place of a name away where it is empty.
+    /// Takes the place of a name away if it is empty.
     pub fn sweep(&mut self, name: &Name)
         ensures same { inside self.new ≡ inside self.old }
         ensures others { IsSwept name.now self.old self.new }
@@ -134,7 +134,7 @@ impl Places {
         self.totals.count
     }
 
-    /// What lies in the places takes this much, or `u64::MAX` where that is more.
+    /// What lies in the places takes this much, or `u64::MAX` if that is more.
     pub fn usage(&self) -> u64
         ensures { result ≡ min (usage (inside self.now)) most }
     {

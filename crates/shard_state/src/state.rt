@@ -16,27 +16,25 @@ ghost use Rattle.std.specs.Cmp.Lexicographic.{slice_cmp};
 ghost use Rattle.shard_state.specs.Doing.{takes_none, fresh_state};
 ghost use Rattle.shard_model.specs.Shards.{stepped};
 ghost use Rattle.shard_state.specs.Places.{joined, inside, HasMade};
-ghost use Rattle.shard_state.specs.Doing.{change_in, is_entry, HasRoomFor};
-ghost use Rattle.shard_state.specs.EntryMeanings.{undo_of, kind_of, logged_of};
-ghost use Rattle.shard_state.specs.StepMeanings.{step_of};
+ghost use Rattle.shard_state.specs.Doing.{HasRoomFor};
+ghost use Rattle.shard_steps.specs.StepMeanings.{change_in, is_entry, kind_of, step_of};
+ghost use Rattle.shard_state.specs.EntryMeanings.{undo_of, logged_of};
 ghost use Rattle.shard_state.specs.Ways.{UndoesNewest, GivesThePast};
 
 use crate::attrs::Attrs;
 use crate::copying::copy_log;
-use crate::entry::{Entry, Kind, Logged, Undo};
+use crate::entry::{Entry, Logged, Undo};
 use crate::fault::{StepFault, UndoFault};
 use crate::fit::{fits_entry, fits_put};
-use crate::head::head_of;
 use crate::held::Held;
 use crate::limits::SEQ_LIMIT;
 use crate::log::{front_len, is_logged, settle_to, take_off};
-use crate::pairs::Pairs;
 use crate::phase::Phase;
 use crate::place_steps::{change_place, empty_place, make_place, restore_place, sweep_front};
 use crate::places::Places;
 use crate::record::Record;
-use crate::step::Step;
 use ec_words::{Bytes, Geometry, Name, NoMemory, Version};
+use shard_steps::{Kind, Pairs, Step, head_of};
 use std::alloc::Global;
 use std::marker::Model;
 
@@ -117,14 +115,14 @@ impl ShardState {
         self.geometry
     }
 
-    /// The object with this name. `None` exactly where there is none.
+    /// The object with this name. `None` exactly if it is not there.
     pub fn object(&self, name: &Name) -> Option<&Held>
         ensures { option_copied result ≡ map.get self.now.state.objects name.now }
     {
         self.places.get(name)
     }
 
-    /// The least name of an object, or the least above `after`. `None` exactly where there is none.
+    /// The least name of an object, or the least above `after`. `None` exactly if there is no such name.
     pub fn next_name(&self, after: Option<&Name>) -> Option<&Name>
         ensures { option_copied result ≡ next_name self.now.state.objects (option_copied after.entry) }
     {
@@ -138,7 +136,7 @@ impl ShardState {
         self.places.count()
     }
 
-    /// The sum of the objects' sizes and of the lengths of all their attributes' names and values, or `u64::MAX` where it is
+    /// The sum of the objects' sizes and of the lengths of all their attributes' names and values, or `u64::MAX` if it is
     /// greater.
     pub fn usage(&self) -> u64
         ensures { result ≡ min (usage self.now.state.objects) (2 ^ 64 - 1) }
@@ -188,7 +186,7 @@ impl ShardState {
         self.log.len()
     }
 
-    /// What the log says of the entry with this index, oldest first. `None` exactly where there are no more than `i`.
+    /// What the log says of the entry with this index, oldest first. `None` exactly if the log has no more than `i`.
     pub fn logged(&self, i: usize) -> Option<&Logged>
         ensures none { IsNone result ↔ (length self.now.state.log ≤ i) }
         ensures value { IfSome result (λ what. (d : Meant) → logged_of what.now (get_or self.now.state.log i d).undo ≡ get_or self.now.state.log i d) }
@@ -208,7 +206,7 @@ impl ShardState {
         &self.log[i].entry.undo
     }
 
-    /// Whether the shard can go back to a version: exactly where it is the tail or a logged version, and not below `firm`.
+    /// Whether the shard can go back to a version: exactly if it is the tail or a logged version, and not below `firm`.
     pub fn holds(&self, version: Version) -> bool
         ensures { result ≡ holds self.now.state version }
     {

@@ -12,7 +12,7 @@ pub(crate) struct ObjectTotals {
 }
 
 impl ObjectTotals {
-    /// Of no objects.
+    /// The totals of no objects.
     pub fn none() -> ObjectTotals
         ensures count { result.count ≡ 0 }
         ensures used { result.used ≡ 0 }

@@ -9,8 +9,8 @@ use Rattle.shard_model.specs.Shards.{Shard, stepped}
 use Rattle.shard_model.specs.States.{fits}
 use Rattle.shard_model.specs.Steps.{Step}
 use Rattle.shard_model.specs.StepBytes.{step_bytes, steps_bytes}
-use Rattle.shard_state.specs.declared.step.Step as plain
-use Rattle.shard_state.specs.StepMeanings.{step_of}
+use Rattle.shard_steps.specs.declared.step.Step as plain
+use Rattle.shard_steps.specs.StepMeanings.{step_of}
 use Rattle.shard_store.specs.Seconds.{IsSecond}
 use Rattle.shard_store.specs.Stories.{fresh_shard, shard_after, AreFitting}
 use Rattle.shard_store.specs.Told.{IsReplayed}

@@ -4,7 +4,7 @@ use Rattle.std.specs.List.{AllByRecursion}
 use Rattle.shard_model.specs.Objects.{Geometry}
 use Rattle.shard_model.specs.StepBytes.{steps_bytes, IsWritable}
 use Rattle.shard_model.specs.Steps.{Step}
-use Rattle.shard_state.specs.StepMeanings.{step_of}
+use Rattle.shard_steps.specs.StepMeanings.{step_of}
 use Rattle.shard_store.specs.Stories.{AreFitting}
 use Rattle.shard_store.specs.Told.{Told, IsReplayed}
 use Rattle.shard_store.specs.Seconds.{IsAhead}

@@ -2,12 +2,11 @@
 ghost use Rattle.std.specs.Prelude.{◌≡◌, ◌<◌, IfOk, true};
 ghost use Rattle.std.specs.List.{AllByRecursion};
 ghost use Rattle.shard_model.specs.StepBytes.{step_bytes, HasWords, IsName, IsWord, IsWritable, HasShortLists};
-ghost use Rattle.shard_state.specs.Doing.{is_entry};
-ghost use Rattle.shard_state.specs.StepMeanings.{step_of};
+ghost use Rattle.shard_steps.specs.StepMeanings.{is_entry, step_of};
 ghost use Rattle.shard_store.specs.Fronts.{HasFront};
 
 use ec_words::{Bytes, Name, NoMemory, Version};
-use shard_state::{Pairs, Step, StepsFault, decode_steps, encode_steps};
+use shard_steps::{Pairs, Step, StepsFault, decode_steps, encode_steps};
 use std::alloc::Global;
 use std::slice;
 

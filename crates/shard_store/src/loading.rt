@@ -2,14 +2,15 @@
 ghost use Rattle.std.specs.Prelude.{◌≡◌, ◌⊎◌, ◌<◌, ◌+◌, ◌-◌, ◌^◌, ℕ, List, length, min, Err, map, IfOk, OnOk, IfErr};
 ghost use Rattle.shard_model.specs.StepBytes.{AreSteps};
 ghost use Rattle.shard_model.specs.Steps.{Step as Meant};
-ghost use Rattle.shard_state.specs.StepMeanings.{step_of};
+ghost use Rattle.shard_steps.specs.StepMeanings.{step_of};
 ghost use Rattle.slot_journal.specs.Journal.{gate_of};
 ghost use Rattle.shard_store.specs.Stories.{fresh_shard, shard_after, AreFitting, AreTold, IsBadAmong, IsBadBody};
 ghost use Rattle.shard_store.specs.declared.fault.StoreFault.TheVariants.{BadSlot, NoMemory as OutOfMemory};
 
 use crate::StoreFault;
 use ec_words::{Bytes, Geometry};
-use shard_state::{ShardState, Step, StepFault, StepsFault, decode_steps};
+use shard_state::{ShardState, StepFault};
+use shard_steps::{Step, StepsFault, decode_steps};
 use slot_journal::{HEADER_LEN, Journal};
 use std::alloc::Global;
 

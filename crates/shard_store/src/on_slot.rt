@@ -4,7 +4,7 @@ ghost use Rattle.rig_disk.specs.During.{During};
 ghost use Rattle.rig_disk.specs.Frame.{Spends};
 ghost use Rattle.shard_model.specs.States.{fits};
 ghost use Rattle.shard_model.specs.Steps.{Step as Meant};
-ghost use Rattle.shard_state.specs.StepMeanings.{step_of};
+ghost use Rattle.shard_steps.specs.StepMeanings.{step_of};
 ghost use Rattle.slot_journal.specs.Journal.{InSlot};
 ghost use Rattle.slot_journal.specs.Limits.{commit_syncs, commit_bytes};
 ghost use Rattle.slot_journal.specs.Reading.{KeepsOtherSlots};
@@ -16,7 +16,8 @@ ghost use Rattle.shard_store.specs.Told.{IsTold, staged_shard, with_step, all_ac
 
 use crate::{Shelf, StoreFault};
 use rig_disk::Rig;
-use shard_state::{Step, StepFault};
+use shard_state::StepFault;
+use shard_steps::Step;
 
 impl Shelf {
     ghost use Rattle.shard_store.specs.declared.fault.StoreFault.TheVariants.{Failed as SlotFailed, Spent};

@@ -5,7 +5,7 @@ ghost use Rattle.rig_disk.specs.Frame.{Spends};
 ghost use Rattle.shard_model.specs.States.{fits};
 ghost use Rattle.shard_model.specs.StepBytes.{step_bytes};
 ghost use Rattle.shard_model.specs.Steps.{Step as Meant};
-ghost use Rattle.shard_state.specs.StepMeanings.{step_of};
+ghost use Rattle.shard_steps.specs.StepMeanings.{step_of};
 ghost use Rattle.slot_journal.specs.Journal.{room_of, InSlot, HaveInUse};
 ghost use Rattle.slot_journal.specs.InUse.{told_text};
 ghost use Rattle.slot_journal.specs.Limits.{make_syncs, make_reads, load_syncs, commit_syncs, commit_bytes, prefix_len};
@@ -21,7 +21,8 @@ use crate::loading::{replay_bodies, with_place};
 use crate::story::{Story, first_story};
 use ec_words::Geometry;
 use rig_disk::Rig;
-use shard_state::{ShardState, Step, StepFault};
+use shard_state::{ShardState, StepFault};
+use shard_steps::Step;
 use slot_journal::{Journal, JournalFault};
 use std::alloc::Global;
 

@@ -2,7 +2,7 @@
 ghost use Rattle.std.specs.Prelude.{◌≡◌, ◌≤◌, ◌<◌, ◌↔◌, ◌∷◌, [], length, map, Err, true, false, IsTrue, IfOk, OnOk, OnErr};
 ghost use Rattle.shard_model.specs.States.{fits};
 ghost use Rattle.shard_model.specs.StepBytes.{step_bytes, steps_bytes};
-ghost use Rattle.shard_state.specs.StepMeanings.{step_of};
+ghost use Rattle.shard_steps.specs.StepMeanings.{step_of};
 ghost use Rattle.slot_journal.specs.Text.{max_body};
 ghost use Rattle.shard_store.specs.Seconds.{IsAhead};
 ghost use Rattle.shard_store.specs.Stories.{fresh_shard, shard_after, AreFitting, first_steps};
@@ -10,7 +10,8 @@ ghost use Rattle.shard_store.specs.Told.{IsAccepted, IsReplayed, IsSound, staged
 
 use crate::copying::copy_step;
 use ec_words::{Geometry, NoMemory};
-use shard_state::{ShardState, Step, StepFault};
+use shard_state::{ShardState, StepFault};
+use shard_steps::Step;
 use std::alloc::Global;
 use std::marker::Model;
 use std::mem;

@@ -2,7 +2,8 @@
 
 use crate::states::{fresh_state, go_back, version};
 use ec_words::{Bytes, Name, Version};
-use shard_state::{Attrs, ShardState, Step, StepFault};
+use shard_state::{Attrs, ShardState, StepFault};
+use shard_steps::Step;
 use std::alloc::Global;
 use std::test::Fail;
 

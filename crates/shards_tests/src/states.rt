@@ -1,9 +1,8 @@
 //! Steps of a shard done and taken back, and steps as bytes.
 
 use ec_words::{Bytes, Geometry, Name, Version};
-use shard_state::{
-    Held, Kind, ShardState, Step, StepFault, StepsFault, UndoFault, decode_steps, encode_steps,
-};
+use shard_state::{Held, ShardState, StepFault, UndoFault};
+use shard_steps::{Kind, Step, StepsFault, decode_steps, encode_steps};
 use std::alloc::Global;
 use std::test::Fail;
 

@@ -1,13 +1,14 @@
 //! A store's text, its crashes, what is staged, and a shelf's stores and bytes.
 ghost use Rattle.std.specs.Prelude.{◌≡◌, ◌≤◌, ◌<◌, OnOk, IfOk};
 ghost use Rattle.shard_model.specs.StepBytes.{HasShortLists};
-ghost use Rattle.shard_state.specs.StepMeanings.{step_of};
+ghost use Rattle.shard_steps.specs.StepMeanings.{step_of};
 ghost use Rattle.shard_store.specs.Stored.{slot_in, told_in, IsAtRest, Becomes};
 ghost use Rattle.shard_store.specs.Told.{IsAccepted, with_step};
 
 use ec_words::{Bytes, Geometry, Name, Version};
 use rig_disk::{MemRig, Rig};
-use shard_state::{ShardState, Step, StepFault, encode_steps};
+use shard_state::{ShardState, StepFault};
+use shard_steps::{Step, encode_steps};
 use shard_store::{FetchFault, Shelf, Store, StoreFault};
 use slot_journal::MAX_BODY;
 use std::alloc::Global;

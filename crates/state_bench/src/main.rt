@@ -4,7 +4,8 @@
 
 use anyhow::{Result, bail};
 use ec_words::{Bytes, Geometry, Name, Version};
-use shard_state::{ShardState, Step};
+use shard_state::ShardState;
+use shard_steps::Step;
 use std::alloc::Global;
 use std::env;
 use std::rt::{Clock, Env};

@@ -2,8 +2,7 @@ use Rattle.std.proofs.Common.{◌≡◌, ◌<◌, ◌*◌, ◌≤◌, length, tr
 use Rattle.std.proofs.Math.Nat.{mul-pos}
 use Rattle.shard_model.specs.Objects.{Geometry}
 use Rattle.shard_model.specs.Changes.{fits_change, bytes_of}
-use Rattle.shard_state.specs.Doing.{change_in}
-use Rattle.shard_state.specs.StepMeanings.{step_of}
+use Rattle.shard_steps.specs.StepMeanings.{change_in, step_of}
 use Rattle.shard_state.proofs.SoundLemmas.{write_longer}
 use Rattle.shard_state.proofs.change.apply_change.Goals as goal
 

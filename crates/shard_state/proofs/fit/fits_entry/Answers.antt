@@ -1,8 +1,7 @@
 use Rattle.std.proofs.Common.{sym, ap, ◌∙◌, option_copied}
 use Rattle.shard_model.specs.Changes.{Replace, fits_change}
 use Rattle.shard_model.specs.Objects.{Geometry}
-use Rattle.shard_state.specs.Doing.{change_in}
-use Rattle.shard_state.specs.StepMeanings.{step_of}
+use Rattle.shard_steps.specs.StepMeanings.{change_in, step_of}
 use Rattle.shard_state.proofs.fit.fits_entry.Goals as goal
 
 pub returns-in-Replace : goal.returns-in-Replace

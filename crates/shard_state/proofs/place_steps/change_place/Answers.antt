@@ -2,8 +2,7 @@ use Rattle.std.proofs.Common.{sym, ap, subst, ◌∙◌, IsSome, None}
 use Rattle.std.specs.FinMap as map
 use Rattle.shard_model.specs.Objects.{Geometry}
 use Rattle.shard_model.specs.Changes.{changed}
-use Rattle.shard_state.specs.Doing.{change_in}
-use Rattle.shard_state.specs.StepMeanings.{step_of}
+use Rattle.shard_steps.specs.StepMeanings.{change_in, step_of}
 use Rattle.shard_state.proofs.PlaceLemmas.{place_of, insert_twice, insert_own}
 use Rattle.shard_state.proofs.place_steps.change_place.Goals as goal
 

@@ -1,7 +1,7 @@
 use Rattle.std.proofs.Common.{◌≡◌, ◌∷◌, [], ap, subst, ◌∙◌, map, length}
 use Rattle.shard_model.specs.StepBytes.{steps_bytes}
-use Rattle.shard_state.specs.Faults.{SaysOf}
-use Rattle.shard_state.specs.StepMeanings.{step_of}
+use Rattle.shard_steps.specs.Faults.{SaysOf}
+use Rattle.shard_steps.specs.StepMeanings.{step_of}
 use Rattle.std.specs.Vec.{vec_len}
 use Rattle.shard_store.proofs.ReadingLemmas.{one_reading, last_of, no_bad}
 use Rattle.shard_store.proofs.copying.copy_step.Goals as goal

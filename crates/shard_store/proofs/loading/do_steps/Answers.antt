@@ -1,6 +1,6 @@
 use Rattle.std.proofs.Common.{◌≡◌, map, ap, true}
 use Rattle.shard_model.specs.States.{fits}
-use Rattle.shard_state.specs.StepMeanings.{step_of}
+use Rattle.shard_steps.specs.StepMeanings.{step_of}
 use Rattle.shard_store.proofs.LoadLemmas.{does_on}
 use Rattle.shard_store.proofs.StoryLemmas.{true_unless}
 use Rattle.shard_store.proofs.loading.do_steps.Goals as goal

@@ -1,5 +1,5 @@
 use Rattle.std.proofs.Common.{map}
-use Rattle.shard_state.specs.StepMeanings.{step_of}
+use Rattle.shard_steps.specs.StepMeanings.{step_of}
 use Rattle.shard_store.proofs.LoadLemmas.{IsDoing}
 use Rattle.shard_store.proofs.loading.do_steps.Given as goal
 

@@ -1,5 +1,5 @@
 use Rattle.std.proofs.Common.{◌≡◌, map, drop}
-use Rattle.shard_state.specs.StepMeanings.{step_of}
+use Rattle.shard_steps.specs.StepMeanings.{step_of}
 use Rattle.shard_store.specs.Stories.{shard_after, AreFitting}
 use Rattle.shard_store.proofs.story.catch_up.Given as goal
 

@@ -1,4 +1,4 @@
-use Rattle.std.proofs.Common.{◌≡◌, ◌∙◌, List, map as each, ap, sym, subst}
+use Rattle.std.proofs.Common.{◌∙◌, List, map as each, ap, sym, subst}
 use Rattle.shard_model.specs.Objects.{Geometry}
 use Rattle.shard_model.specs.Shards.{Shard}
 use Rattle.shard_state.specs.Copies.{AreCopies}

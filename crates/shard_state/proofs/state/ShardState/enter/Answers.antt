@@ -10,12 +10,11 @@ use Rattle.shard_model.specs.States.{Running, logged, follows, fits}
 use Rattle.shard_state.proofs.OrderLemmas.{ordered_after, OrderedWith, ordered_with}
 use Rattle.shard_state.specs.Sound.{IsOrdered}
 use Rattle.shard_model.specs.Shards.{Shard, stepped}
-use Rattle.shard_state.specs.Doing.{change_in}
+use Rattle.shard_steps.specs.StepMeanings.{change_in, step_of}
 use Rattle.shard_state.specs.Inner.{shard_of}
 use Rattle.shard_state.specs.Places.{inside}
 use Rattle.shard_state.specs.Records.{recorded}
 use Rattle.shard_state.specs.Sound.{IsKept, logged_in}
-use Rattle.shard_state.specs.StepMeanings.{step_of}
 use Rattle.shard_state.specs.declared.record.Record.{Record}
 use Rattle.shard_state.proofs.StateLemmas.{here, entered, objects_entered, entered_kept, made_kept}
 use Rattle.shard_state.proofs.state.ShardState.enter.Goals as goal

@@ -3,8 +3,7 @@ use Rattle.std.specs.FinMap as map
 use Rattle.shard_model.specs.Changes.{fits_change}
 use Rattle.shard_model.specs.States.{fits}
 use Rattle.shard_model.specs.Shards.{Shard}
-use Rattle.shard_state.specs.Doing.{change_in}
-use Rattle.shard_state.specs.StepMeanings.{step_of}
+use Rattle.shard_steps.specs.StepMeanings.{change_in, step_of}
 use Rattle.shard_state.proofs.state.ShardState.fits.Goals as goal
 
 pub returns-then-follows : goal.returns-then-follows

@@ -4,7 +4,7 @@ use Rattle.std.proofs.lemmas.List.{take_all, append-nil}
 use Rattle.shard_model.specs.Shards.{Shard}
 use Rattle.shard_model.specs.StepBytes.{steps_bytes, IsWritable}
 use Rattle.shard_model.specs.Steps.{Step}
-use Rattle.shard_state.specs.StepMeanings.{step_of}
+use Rattle.shard_steps.specs.StepMeanings.{step_of}
 use Rattle.shard_store.specs.Inner.{staged_of, geometry_of}
 use Rattle.shard_store.specs.Seconds.{IsSecond, IsAhead}
 use Rattle.shard_store.specs.Stories.{shard_after, AreFitting}

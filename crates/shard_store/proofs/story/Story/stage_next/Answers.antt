@@ -5,7 +5,7 @@ use Rattle.shard_model.specs.Shards.{Shard, stepped}
 use Rattle.shard_model.specs.States.{fits}
 use Rattle.shard_model.specs.StepBytes.{step_bytes, steps_bytes, IsWritable}
 use Rattle.shard_model.specs.Steps.{Step}
-use Rattle.shard_state.specs.StepMeanings.{step_of}
+use Rattle.shard_steps.specs.StepMeanings.{step_of}
 use Rattle.shard_store.specs.Inner.{staged_of, geometry_of}
 use Rattle.shard_store.specs.Seconds.{IsSecond}
 use Rattle.shard_store.specs.Stories.{shard_after, AreFitting}

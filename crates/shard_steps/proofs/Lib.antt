@@ -1,0 +1,3 @@
+pub mod DecodingLemmas
+pub mod EncodingLemmas
+pub mod PairLemmas

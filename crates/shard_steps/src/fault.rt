@@ -1,0 +1,34 @@
+//! Why a text was not read as steps.
+ghost use Rattle.std.specs.Prelude.{◌≡◌};
+ghost use Rattle.shard_steps.specs.declared.fault.Unread.TheVariants.{NoMemory as UnreadNoMemory};
+
+use ec_words::NoMemory;
+use thiserror::Error;
+
+/// Why a text was not read as steps.
+#[derive(Clone, Copy, Debug, PartialEq, Eq, Error)]
+pub enum StepsFault {
+    /// Steps stand before `at`, and there no step is spelled.
+    #[error("no step at {at}")]
+    BadStep { at: usize },
+    /// Memory ran out.
+    #[error("out of memory")]
+    NoMemory,
+}
+
+/// Why the front of a text was not read.
+#[derive(Clone, Copy)]
+pub(crate) enum Unread {
+    /// The text does not begin with what was asked for.
+    NoStep,
+    /// Memory ran out.
+    NoMemory,
+}
+
+impl From<NoMemory> for Unread {
+    ghost from_gives = { λ _ fault. fault ≡ UnreadNoMemory };
+
+    fn from(_: NoMemory) -> Unread {
+        Unread::NoMemory
+    }
+}
