@@ -12,7 +12,7 @@ use Rattle.shard_store.specs.Shelves.{store_at, KeepsStores}
 use Rattle.shard_store.specs.Stored.{slot_in, Flushes}
 use Rattle.shard_store.specs.declared.store.Store.{Store}
 
--- a shelf with another store of the slot, or none, in a place
+-- a shelf with another store of the slot, or with no store, in a place
 pub own_put : (old new : Shelved) (slot : ℕ) (o : Option Store) → KeepsStores old new slot → store_at new slot ≡ o → IfSome o (λ store. slot_in store ≡ slot) → AreOwn old → AreOwn new
 own_put old new slot o keeps is of_slot own s = elim (cases_eq s slot) [
   | inl e ↦ subst (λ q. IfSome (store_at new q) (λ store. slot_in store ≡ q)) (sym e) (subst (λ (x : Option Store). IfSome x (λ store. slot_in store ≡ slot)) (sym is) of_slot)

@@ -1,4 +1,4 @@
--- A text has one list of steps, and what is no shard's has none.
+-- A text has one list of steps, and what is no shard's has no such list.
 use Rattle.std.proofs.Common.{◌≡◌, inl, inr, ℕ, List, [], ◌∷◌, ◌++◌, sym, ap, subst, ◌∙◌, refl, append_assoc}
 use Rattle.shard_model.specs.Objects.{Geometry}
 use Rattle.shard_model.specs.Steps.{Step}

@@ -37,7 +37,7 @@ last_of f (x ∷ []) n copy y e long last =
     ap f (found ∙ ap (λ m. get_or (x ∷ []) (m - 1) copy) long) ∙ head_same (f x) y [] [] e
 last_of f (x ∷ z ∷ rest) n copy y e long last = absurd (omega (arith, ap length e))
 
--- bytes of steps have no place where none is spelled
+-- bytes of steps have no place where no step is spelled
 pub no_bad : (text : List ℕ) (steps : List Step) (at : ℕ) → AreSteps text steps → IsFirstBad text at → ⊥
 no_bad text steps at are bad = nowhere bad.front steps bad.spelled are.0 (sym bad.parts ∙ are.1)
   where

@@ -1,5 +1,5 @@
 -- A step that fits, and has few bytes, has lists that are short enough to be counted.
-use Rattle.std.proofs.Common.{◌≡◌, ◌≤◌, ◌<◌, ◌+◌, ◌^◌, ℕ, List, [], ◌∷◌, ◌++◌, length, Bool, true, ◌&&◌, nat_le, ◌==◌, arith, length-append}
+use Rattle.std.proofs.Common.{◌≡◌, ◌≤◌, ℕ, List, [], ◌∷◌, ◌++◌, length, true, ◌&&◌, nat_le, ◌==◌, arith, length-append}
 use Rattle.std.specs.List.{AllByRecursion, list_all}
 use Rattle.std.specs.Int.{bytes_high_first}
 use Rattle.std.specs.Ordering.{nat_cmp}
@@ -10,7 +10,7 @@ use Rattle.shard_model.specs.Changes.{Change, Write, Replace, Remove, SetAttr, R
 use Rattle.shard_model.specs.Limits.{max_size, max_attrs, max_value}
 use Rattle.shard_model.specs.Objects.{Geometry, shard_len}
 use Rattle.shard_model.specs.States.{State, fits, are_attrs}
-use Rattle.shard_model.specs.Steps.{Step, Log, Control, Recover, Back, Firm, Trim, Started, Partial, Put, Drop, Clear, Reset}
+use Rattle.shard_model.specs.Steps.{Step, Log, Control, Recover, Put, Drop, Clear, Reset}
 use Rattle.shard_model.specs.StepBytes.{step_bytes, head_bytes, change_bytes, name_bytes, counted_bytes, pairs_bytes, HasShortBytes, HasShortLists, IsCounted}
 use Rattle.slot_journal.specs.Text.{max_body}
 

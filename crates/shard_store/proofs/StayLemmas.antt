@@ -18,7 +18,7 @@ module _ {R : Type 0} (reads_of : R → ℕ → ℕ → Option (List ℕ)) (cloc
   abbrev Now : R → Image → List ℕ → Type 0
   Now rig image said = images_of rig (clock_of rig) image said
 
-  -- where its journal holds what it held
+  -- if its journal holds what it held
   stored_on : (old new : R) (store : Store) (text : List ℕ) (flushed pending : List Step)
       → ((bodies : List (List ℕ)) → Holds (reads_of old) (Now old) store.journal (head_in store) bodies text → Holds (reads_of new) (Now new) store.journal (head_in store) bodies text)
       → IsStored (reads_of old) (Now old) store text flushed pending → IsStored (reads_of new) (Now new) store text flushed pending

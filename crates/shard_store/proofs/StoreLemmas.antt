@@ -42,7 +42,7 @@ pub gate_moved : (gate next : ℕ) (body pending : List ℕ) → (pending ≡ []
 gate_moved gate next body [] some is moved = absurd (some refl)
 gate_moved gate next body (b ∷ bytes) some is moved = moved ∙ ap (λ l. next_gate gate l) is
 
--- where nothing is staged, the bytes in no record are the pending ones
+-- if nothing is staged, the bytes in no record are the pending ones
 pub pending_alone : (t : Told) → IsAccepted t → unflushed_bytes t ≡ t.pending
 pending_alone t accepted = ap (λ l. t.pending ++ steps_bytes l) accepted ∙ append-nil t.pending
 
@@ -64,7 +64,7 @@ pub body_more : (t : Told) (bodies : List (List ℕ)) (flushed pending : List St
 body_more t bodies flushed pending accepted told spelled =
     subst (λ b. AreSpelled (bodies ++ b ∷ []) (flushed ++ pending)) (sym (pending_alone t accepted)) (spelled_more bodies flushed t.pending pending spelled told.bytes)
 
--- .. and then no steps are pending
+-- after a flush no steps are pending
 pub told_flushed : (t : Told) (flushed pending : List Step) → IsTold t flushed pending → IsTold (all_flushed t) (flushed ++ pending) []
 told_flushed t flushed pending told = record {
   bytes = (tt, refl);
@@ -72,7 +72,7 @@ told_flushed t flushed pending told = record {
   shard = told.shard ∙ ap (shard_after (fresh_shard t.geometry)) (sym (append-nil (flushed ++ pending)));
 }
 
--- where no bytes are pending, no steps are
+-- if no bytes are pending, no steps are pending
 pub nothing_more : (reads : ℕ → ℕ → Option (List ℕ)) (images : Image → List ℕ → Type 0) (store : Store) (text : List ℕ) (flushed pending : List Step) → store.story.pending ≡ []
     → IsStored reads images store text flushed pending → IsStored reads images store text (flushed ++ pending) []
 nothing_more reads images store text flushed pending empty stored =
@@ -138,7 +138,7 @@ module _ {R : Type 0} (clock : R → ℕ) (images : R → ℕ → Image → List
         stepped = flushes reads Now store accepted body (one.source (slot_in store)) (image (slot_in store)) is one.stepped;
       })
 
--- where nothing is written, each image of now has the flushed steps
+-- if nothing is written, each image of now has the flushed steps
 pub rests : {R : Type 0} (clock : R → ℕ) (images : R → ℕ → Image → List ℕ → Type 0) (rig : R) (reads : ℕ → ℕ → Option (List ℕ)) (store : Store)
     → During clock images rig rig (InSlot (images rig (clock rig)) (slot_in store) (Flushes reads (images rig (clock rig)) store))
 rests clock images rig reads store =

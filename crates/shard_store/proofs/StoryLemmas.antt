@@ -1,5 +1,5 @@
 -- What steps come to, in parts.
-use Rattle.std.proofs.Common.{◌≡◌, ◌⊎◌, inl, inr, ℕ, List, [], ◌∷◌, ◌++◌, sym, ap, subst, ◌∙◌, refl, Bool, true, false, append_assoc, length, map, nat_eq, IsTrue, arith}
+use Rattle.std.proofs.Common.{◌≡◌, inl, inr, ℕ, List, [], ◌∷◌, ◌++◌, sym, ap, subst, ◌∙◌, refl, Bool, true, false, append_assoc, length, map, nat_eq, IsTrue, arith}
 use Rattle.std.specs.List.{AllByRecursion}
 use Rattle.std.proofs.lemmas.Bool.{eqb-true}
 use Rattle.std.proofs.lemmas.List.{append-nil}
@@ -46,7 +46,7 @@ all_back P (x ∷ xs) ys p = all_back P xs ys p.1
 pub bytes_append : (xs ys : List Step) → steps_bytes (xs ++ ys) ≡ steps_bytes xs ++ steps_bytes ys
 bytes_append xs ys = flat_map-append step_bytes xs ys
 
--- a shard that is level with the staged steps lacks none
+-- a shard that is level with the staged steps lacks no step
 pub level_second : (state level : Shard) (staged : List Step) → level ≡ shard_after state staged → IsSecond state level [] staged
 level_second state level staged is = record { fitting = tt; meets = is; either = inl refl }
 
@@ -58,7 +58,7 @@ swapped state ahead behind staged k fitting = record {
   either = elim k.either [ inl none ↦ inr none | inr none ↦ inl none ];
 }
 
--- where a step is staged, the second state lacks none
+-- if a step is staged, the second state lacks no step
 pub none_behind : (state ahead : Shard) (behind staged : List Step) → IsSecond state ahead behind staged → (staged ≡ [] → ⊥) → behind ≡ []
 none_behind state ahead behind staged k some = elim k.either [ inl none ↦ none | inr none ↦ absurd (some none) ]
 
@@ -95,7 +95,7 @@ pub true_unless : (b : Bool) → (b ≡ false → ⊥) → b ≡ true
 true_unless true never = refl
 true_unless false never = absurd (never refl)
 
--- a list is empty exactly where its length is 0
+-- a list is empty exactly if its length is 0
 pub empty_length : (n : ℕ) (bytes : List ℕ) → n ≡ length bytes → (IsTrue (nat_eq n 0) → bytes ≡ []) × (bytes ≡ [] → IsTrue (nat_eq n 0))
 empty_length n [] e = (λ zero. refl, λ none. ap (λ m. nat_eq m 0) e)
 empty_length n (b ∷ bytes) e = (λ zero. absurd (omega (arith, eqb-true n 0 zero, e)), λ none. absurd (omega (arith, ap length none)))

@@ -1,4 +1,4 @@
--- What a store was told as numbers and lists, by which two such values are told apart. Source: this project.
+-- The view of a store as numbers and lists, by which two such values are told apart. Source: this project.
 use Rattle.std.proofs.Common.{ℕ, List, refl}
 use Rattle.std.specs.Coded.{Coded, code_by, coded×, coded_ℕ, coded_list}
 use Rattle.shard_model.specs.Shards.{Shard, shard_code}

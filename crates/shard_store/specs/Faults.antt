@@ -6,7 +6,7 @@ use Rattle.shard_store.specs.declared.shelf.FetchFault.TheVariants as fetch
 use Rattle.shard_store.specs.declared.fault.StoreFault.{StoreFault}
 use Rattle.shard_store.specs.declared.fault.StoreFault.TheVariants.{Failed}
 
--- the slot's count of faults rose where the answer is `Failed`, and else it is as it was
+-- the slot's count of faults rose if the answer is `Failed`, and else it is as it was
 pub record HasStoreCause {T : Type 0} (before now : ℕ) (result : Result T StoreFault) : Type 0 where
   pub failed : IsErrOf result Failed → Rose before now
   pub quiet : (IsErrOf result Failed → ⊥) → now ≡ before

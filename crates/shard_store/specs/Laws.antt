@@ -14,7 +14,7 @@ use Rattle.shard_store.specs.Stories.{fresh_shard, shard_after, AreFitting, HasS
 use Rattle.shard_store.specs.Told.{IsTold, with_step, none_staged}
 use Rattle.shard_store.specs.declared.store.Store.{Store}
 
--- steps that fit one after another have a replay, which comes to the shard that they lead to
+-- steps that fit one after another have a replay, and it comes to the shard that they lead to
 abbrev pub ShardsAreReplays : Type 0
 ShardsAreReplays =
     (g : Geometry) → 0 < g.k * g.unit → (steps : List Step) → AreFitting (fresh_shard g) steps
@@ -26,7 +26,7 @@ TextsHaveOneStory =
     (one other : Geometry) (text head wanted : List ℕ) (steps those : List Step)
     → HasShard one head text steps → HasShard other wanted text those → steps ≡ those
 
--- a text that is no shard's has none
+-- a text that is no shard's has no list of steps
 abbrev pub BadTextsHaveNoStory : Type 0
 BadTextsHaveNoStory =
     (g : Geometry) (head text : List ℕ) (at : ℕ) → IsBadText head text at ⊎ IsBadStory g head text at
@@ -78,7 +78,7 @@ StagingKeepsStored {R} reads_of clock_of images_of =
     → (((step : Step) × Becomes old new (with_step (told_in old) step)) ⊎ Becomes old new (none_staged (told_in old)))
     → IsStored (reads_of rig) (images_of rig (clock_of rig)) old text flushed pending → IsStored (reads_of rig) (images_of rig (clock_of rig)) new text flushed pending
 
--- .. and more once it was told more, as when the staged steps are accepted
+-- what a store has stored it has still after it was told more, as when the staged steps are accepted
 abbrev pub TellingKeepsStored : {R : Type 0} → (R → ℕ → ℕ → Option (List ℕ)) → (R → ℕ) → (R → ℕ → Image → List ℕ → Type 0) → Type 0
 TellingKeepsStored {R} reads_of clock_of images_of =
     (rig : R) (old new : Store) (text : List ℕ) (flushed pending more : List Step)

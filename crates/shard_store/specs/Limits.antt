@@ -2,7 +2,7 @@
 use Rattle.std.specs.Prelude.{◌+◌, ℕ}
 use Rattle.slot_journal.specs.Limits.{make_bytes}
 
--- the bytes of the longest first step, which starts epoch 1
+-- the bytes of the longest first step: it starts epoch 1
 abbrev pub first_len : ℕ
 first_len = 5
 

@@ -31,7 +31,7 @@ pub record MayFlush (is_here : ℕ → Type 0) (reads : ℕ → ℕ → Option (
   pub accepted : IsAccepted (told_in store)
   pub settled : (is_stuck store → ⊥) → IsAtRest reads images store
 
--- a call changed a slot's store so; where there was none there is none
+-- a call changed a slot's store so; a slot that had no store has none
 abbrev pub ChangesAt : (Store → Store → Type 0) → Option Store → Option Store → Type 0
 ChangesAt change None new = new ≡ None
 ChangesAt change (Some old) None = ⊥
@@ -42,7 +42,7 @@ abbrev pub pending_at : Option Store → List ℕ
 pending_at None = []
 pending_at (Some store) = (told_in store).pending
 
--- a flush of a slot at each of its instants; where there is no store nothing changes
+-- a flush of a slot at each of its instants; if the slot has no store, nothing changes
 abbrev pub FlushesAt : (ℕ → ℕ → Option (List ℕ)) → (Image → List ℕ → Type 0) → Option Store → Areas → Areas → Type 0
 FlushesAt reads images None before after = (a : ℕ) → after a ≡ before a
 FlushesAt reads images (Some store) before after = Flushes reads images store before after

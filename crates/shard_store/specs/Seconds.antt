@@ -10,7 +10,7 @@ pub record IsSecond (state ahead : Shard) (behind staged : List Step) : Type 0 w
   pub meets : shard_after ahead behind ≡ shard_after state staged
   pub either : (behind ≡ []) ⊎ (staged ≡ [])
 
--- .. where there is a second state, as there is wherever a step is staged
+-- the same, if there is a second state. There is one whenever a step is staged
 abbrev pub IsAhead : Shard → Option Shard → List Step → List Step → Type 0
 IsAhead state None behind staged = staged ≡ []
 IsAhead state (Some ahead) behind staged = IsSecond state ahead behind staged

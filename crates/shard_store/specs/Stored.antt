@@ -13,9 +13,6 @@ use Rattle.shard_store.specs.declared.store.Store.{Store}
 abbrev pub slot_in : Store → ℕ
 slot_in store = slot_of store.journal
 
-abbrev pub area_in : Store → ℕ
-area_in store = area_of store.journal
-
 abbrev pub room_in : Store → ℕ
 room_in store = room_of store.journal
 
@@ -30,7 +27,7 @@ told_in store = store.story
 abbrev pub head_in : Store → List ℕ
 head_in store = shard_head (slot_of store.journal) store.story.geometry store.n
 
--- its journal is at rest, where the rig tells the slot
+-- its journal is at rest, if the rig tells the slot
 abbrev pub IsAtRest : (ℕ → ℕ → Option (List ℕ)) → (Image → List ℕ → Type 0) → Store → Type 0
 IsAtRest reads images store = IsSettledWhereTold reads images store.journal
 
@@ -42,8 +39,8 @@ pub record IsStored (reads : ℕ → ℕ → Option (List ℕ)) (images : Image 
   pub spelled : AreSpelled bodies flushed
   pub told : IsTold store.story flushed pending
 
--- a flush at each of its instants: one area alone changes, and where the slot had the flushed steps, it has these or all
--- accepted ones
+-- a flush at each of its instants: one area alone changes, and a slot that had the flushed steps has these or all accepted
+-- ones
 pub record Flushes (reads : ℕ → ℕ → Option (List ℕ)) (images : Image → List ℕ → Type 0) (store : Store)
     (before after : Areas) : Type 0 where
   pub others : (a : ℕ) → a ≢ area_of store.journal → after a ≡ before a
@@ -51,12 +48,12 @@ pub record Flushes (reads : ℕ → ℕ → Option (List ℕ)) (images : Image �
       → HasShard store.story.geometry (head_in store) (text_in_use (slot_in store) after) flushed
       ⊎ HasShard store.story.geometry (head_in store) (text_in_use (slot_in store) after) (flushed ++ pending)
 
--- the place of the closed gate once these bytes stand in front of it as one record, or as it was where there are none
+-- the place of the closed gate once these bytes stand in front of it as one record, or as it was if there are no bytes
 abbrev pub gate_behind : ℕ → List ℕ → ℕ
 gate_behind gate [] = gate
 gate_behind gate (b ∷ bytes) = next_gate gate (b ∷ bytes)
 
--- the store was told this from now on, and all else is as it was
+-- the store has this view from now on, and all else is as it was
 pub record Becomes (old new : Store) (told : Told) : Type 0 where
   pub journal : new.journal ≡ old.journal
   pub n : new.n ≡ old.n

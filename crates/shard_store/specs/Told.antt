@@ -1,5 +1,5 @@
--- What a store was told: the shard that the accepted steps lead to, those of them that are in no record yet, and the staged
--- steps. Source: this project.
+-- What a contract sees of a store: the shard that the accepted steps lead to, those of them that are in no record yet, and the
+-- staged steps. Source: this project.
 use Rattle.std.specs.Prelude.{◌≡◌, ◌++◌, ◌∷◌, [], ℕ, List}
 use Rattle.std.specs.List.{AllByRecursion}
 use Rattle.shard_model.specs.Objects.{Geometry}
@@ -45,7 +45,7 @@ pub record IsSound (t : Told) : Type 0 where
 abbrev pub IsAccepted : Told → Type 0
 IsAccepted t = t.staged ≡ []
 
--- a shard, of which all steps stand in records
+-- a shard whose steps all stand in records
 abbrev pub all_told : Geometry → Shard → Told
 all_told g s = record { geometry = g; shard = s; pending = []; staged = [] }
 

@@ -1,4 +1,4 @@
-//! Calls on the store of one slot of a shelf. Where the slot has none they do nothing and answer Ok.
+//! Calls on the store of one slot of a shelf. If the slot has no store, they do nothing and answer Ok.
 ghost use Rattle.std.specs.Prelude.{◌≡◌, ◌⊎◌, ◌<◌, ◌+◌, ◌↔◌, ◌++◌, [], ℕ, List, length, Err, true, false, IfErr, IfSome, OnOk, OnErr, IsSome};
 ghost use Rattle.rig_disk.specs.During.{During};
 ghost use Rattle.rig_disk.specs.Frame.{Spends};

@@ -28,7 +28,7 @@ pub enum FetchFault {
     Failed,
 }
 
-/// A store, or none, for each slot below 16, and how many bytes were fetched on each of them.
+/// For each slot below 16 its store, if it has one, and how many bytes were fetched on it.
 #[derive(Drop)]
 pub struct Shelf {
     stores: ArrayVec<Option<Store>, 16>,
@@ -58,7 +58,7 @@ impl Shelf {
     ghost use Rattle.shard_store.specs.Ranges.{range_of};
     ghost use Rattle.shard_store.specs.declared.shelf.FetchFault.TheVariants.{NoSuch, Failed as FetchFailed};
 
-    /// No stores.
+    /// A shelf without stores.
     pub fn new() -> Shelf
         ensures stores { (slot : ℕ) → store_at result slot ≡ None }
         ensures fetched { (slot : ℕ) → fetched_on result slot ≡ 0 }
@@ -105,7 +105,7 @@ impl Shelf {
         self.stores[slot as usize] = store;
     }
 
-    /// A slot's store. `None` exactly where none was put there since it was last dropped. From slot 16 on there is none.
+    /// A slot's store: `None` exactly if no store was put there since it was last dropped. From slot 16 on no slot has one.
     pub fn get(&self, slot: u8) -> Option<&Store>
         requires { slot < 16 }
         ensures value { option_copied result ≡ store_at self.now slot }
@@ -114,8 +114,8 @@ impl Shelf {
         self.stores[slot as usize].as_ref()
     }
 
-    /// A slot's store, to be changed. `None` exactly where none was put there since it was last dropped. What the store ends
-    /// as, the shelf has at the slot, and all else is as it was.
+    /// A slot's store, to be changed: `None` exactly if no store was put there since it was last dropped. The shelf has at the
+    /// slot what the store ends as, and all else is as it was.
     pub fn get_mut(&mut self, slot: u8) -> Option<&mut Store>
         requires { slot < 16 }
         ensures* writes_back { sem 𝓛 (LendsStore self.entry slot result) }
@@ -168,7 +168,7 @@ impl Shelf {
         self.fetch_known(slot, name, at, into)
     }
 
-    /// The same of the bytes that the store has at hand, which are all of them.
+    /// The same from the bytes that the store has at hand. It has all of them.
     fn fetch_known(
         &mut self,
         slot: u8,
@@ -199,7 +199,7 @@ impl Shelf {
     }
 }
 
-/// Fills `into` with the bytes of an object from `at` on, or leaves it where there are not so many.
+/// Fills `into` with the bytes of an object from `at` on, or leaves it if there are not so many.
 fn copy_object(store: &Store, name: &Name, at: u32, into: &mut [u8]) -> bool
     requires { IsAccepted (told_in store.now) }
     ensures { IsRange (object_bytes (Some store.now) name.now) at into.old into.new result }
@@ -210,7 +210,7 @@ fn copy_object(store: &Store, name: &Name, at: u32, into: &mut [u8]) -> bool
     }
 }
 
-/// Fills `into` with the bytes from `at` on, or leaves it where there are not so many.
+/// Fills `into` with the bytes from `at` on, or leaves it if there are not so many.
 fn copy_range(bytes: &[u8], at: usize, into: &mut [u8]) -> bool
     ensures { IsRange (Some bytes.now) at into.old into.new result }
 {

@@ -42,8 +42,8 @@ impl Store {
     ghost use Rattle.shard_store.specs.Stored.{slot_in, room_in, is_stuck, told_in, IsAtRest, IsStored, Flushes, Becomes, IsFlushed, IsNew, MakesShard};
     ghost use Rattle.shard_store.specs.declared.fault.StoreFault.TheVariants.{Failed as SlotFailed, BadSlot, Spent, NoMemory as OutOfMemory};
 
-    /// Makes a store in the place of what the slot holds: its text has one step, which starts epoch 1, or has the shard filled
-    /// anew where it is to be partial. A crash at any instant leaves in use the text of before, no text, or the new one.
+    /// Makes a store in the place of what the slot holds. Its text has one step: it starts epoch 1, or has the shard filled anew
+    /// if the shard is to be partial. A crash at any instant leaves in use the text of before, no text, or the new one.
     pub fn make<R: Rig>(
         alloc: Global,
         rig: &mut R,
@@ -183,7 +183,7 @@ impl Store {
         self.story.unstage();
     }
 
-    /// Commits the accepted steps as one record; where there are none, nothing is written. A crash at any instant leaves the
+    /// Commits the accepted steps as one record. If there are no such steps, nothing is written. A crash at any instant leaves the
     /// steps that were flushed before, or all accepted ones; after `Ok` it leaves all. It takes no memory.
     pub fn flush<R: Rig>(&mut self, rig: &mut R) -> Result<(), StoreFault>
         requires here { R.is_here rig.old (slot_in self.old) }

@@ -218,7 +218,7 @@ pub(crate) fn first_story(alloc: Global, g: Geometry, partial: bool) -> Result<S
     Ok(story)
 }
 
-/// The second state level with the first and the staged steps: a copy where there is none yet, and else it does the steps
+/// The second state level with the first and the staged steps: a copy if there is no second state yet, and else it does the steps
 /// that it lacks.
 fn second(
     alloc: Global,

@@ -3,6 +3,6 @@ use Rattle.std.specs.List.{AllByRecursion}
 use Rattle.shard_model.specs.StepBytes.{IsName}
 use Rattle.shard_store.proofs.copying.have_names.Given as goal
 
--- where those left have names, all have
+-- if those left have names, all have
 abbrev pub invariant-loop-i : goal.invariant-loop-i
 invariant-loop-i l = AllByRecursion (λ attr. IsName attr.0) (drop l.i l.attrs) → AllByRecursion (λ attr. IsName attr.0) l.attrs

@@ -1,4 +1,4 @@
-use Rattle.std.proofs.Common.{rules, [], ◌+◌, ◌-◌, ◌^◌, min, length, ◌≡◌, ◌∙◌, ◌∷◌, List, ℕ, ap, sym, subst, refl, Err}
+use Rattle.std.proofs.Common.{rules, ◌+◌, ◌-◌, ◌^◌, min, length, ◌≡◌, ◌∙◌, ◌∷◌, List, ℕ, ap, sym, subst, refl, Err}
 use Rattle.shard_model.specs.Objects.{Geometry}
 use Rattle.shard_store.specs.Stories.{IsBadAmong}
 use Rattle.shard_store.proofs.LoadLemmas.{IsReplaying, replays_on, bad_among, none_done, all_done}

@@ -1,9 +1,9 @@
-use Rattle.std.proofs.Common.{rules, refl, ◌≡◌, ◌≤◌, ◌∙◌, ◌∷◌, ◌++◌, [], length, sym, ap, subst, arith}
+use Rattle.std.proofs.Common.{rules, refl, ◌≡◌, ◌∙◌, ◌∷◌, ◌++◌, [], length, sym, ap, subst, arith}
 use Rattle.slot_journal.specs.Journal.{slot_of, gate_of, area_of, Holds}
 use Rattle.slot_journal.proofs.CallerLemmas.{other_slots}
 use Rattle.shard_store.specs.Stories.{AreSpelled, shard_head}
 use Rattle.shard_store.specs.Stored.{head_in, gate_behind}
-use Rattle.shard_store.specs.Told.{Told, IsTold, unflushed_bytes}
+use Rattle.shard_store.specs.Told.{Told, IsTold}
 use Rattle.shard_store.proofs.StoreLemmas.{some_length, gate_moved, pending_alone, body_more, told_flushed, nothing_more, flush_moments, rests}
 use Rattle.shard_store.proofs.store.Store.flush.Goals as goal
 

@@ -1,4 +1,4 @@
-use Rattle.std.proofs.Common.{rules, ◌≡◌, ◌∙◌, ◌++◌, ◌≤◌, [], ap, sym, subst, length, map, take, List, Option, Some, arith}
+use Rattle.std.proofs.Common.{rules, ◌≡◌, ◌∙◌, ◌++◌, [], ap, sym, subst, length, map, take, List, Option, arith}
 use Rattle.std.specs.List.{AllByRecursion}
 use Rattle.std.proofs.lemmas.List.{take_all, append-nil}
 use Rattle.shard_model.specs.Shards.{Shard}
@@ -7,7 +7,7 @@ use Rattle.shard_model.specs.Steps.{Step}
 use Rattle.shard_steps.specs.StepMeanings.{step_of}
 use Rattle.shard_store.specs.Inner.{staged_of, geometry_of}
 use Rattle.shard_store.specs.Seconds.{IsSecond, IsAhead}
-use Rattle.shard_store.specs.Stories.{shard_after, AreFitting}
+use Rattle.shard_store.specs.Stories.{AreFitting}
 use Rattle.shard_store.proofs.StoryLemmas.{swapped, none_behind, led_on, replayed_on, some_staged}
 use Rattle.shard_store.proofs.story.Story.accept.Goals as goal
 
