@@ -17,6 +17,7 @@ mod limits;
 mod mask;
 mod name;
 mod number;
+mod reader;
 mod records;
 mod version;
 
@@ -32,5 +33,6 @@ pub use laws::{
 pub use mask::Mask;
 pub use name::Name;
 pub use number::read_u64;
+pub use reader::{Ended, Reader};
 pub use records::{Cut, put_bytes, put_u32, put_u64, take_bytes, take_u32, take_u64};
 pub use version::Version;
