@@ -1,8 +1,8 @@
 //! Why a text was not read as steps.
 ghost use Rattle.std.specs.Prelude.{◌≡◌};
-ghost use Rattle.shard_steps.specs.declared.fault.Unread.TheVariants.{NoMemory as UnreadNoMemory};
+ghost use Rattle.shard_steps.specs.declared.fault.Unread.TheVariants.{NoStep as UnreadNoStep, NoMemory as UnreadNoMemory};
 
-use ec_words::NoMemory;
+use ec_words::{Ended, NoMemory};
 use thiserror::Error;
 
 /// Why a text was not read as steps.
@@ -30,5 +30,13 @@ impl From<NoMemory> for Unread {
 
     fn from(_: NoMemory) -> Unread {
         Unread::NoMemory
+    }
+}
+
+impl From<Ended> for Unread {
+    ghost from_gives = { λ _ fault. fault ≡ UnreadNoStep };
+
+    fn from(_: Ended) -> Unread {
+        Unread::NoStep
     }
 }

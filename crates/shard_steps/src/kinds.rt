@@ -16,9 +16,9 @@ fn write(reader: &mut StepReader<'_>) -> Result<Step, Unread>
         prior,
         name,
     } = reader.head()?;
-    let fresh = reader.byte()?;
-    let size = reader.number()?;
-    let at = reader.number()?;
+    let fresh = reader.front.byte()?;
+    let size = reader.front.number()?;
+    let at = reader.front.number()?;
     let bytes = reader.counted()?;
     Ok(Step::Write {
         version,
@@ -40,7 +40,7 @@ fn replace(reader: &mut StepReader<'_>) -> Result<Step, Unread>
         prior,
         name,
     } = reader.head()?;
-    let size = reader.number()?;
+    let size = reader.front.number()?;
     let bytes = reader.counted()?;
     Ok(Step::Replace {
         version,
@@ -109,28 +109,28 @@ fn back(reader: &mut StepReader<'_>) -> Result<Step, Unread>
     ensures value { IfOk result (λ step. read_back reader.old ≡ Some (step_of step, reader.new)) }
     ensures no_step { result ≡ Err Unread.NoStep → read_back reader.old ≡ None }
 {
-    Ok(Step::Back(reader.version()?))
+    Ok(Step::Back(reader.front.version()?))
 }
 
 fn started(reader: &mut StepReader<'_>) -> Result<Step, Unread>
     ensures value { IfOk result (λ step. read_started reader.old ≡ Some (step_of step, reader.new)) }
     ensures no_step { result ≡ Err Unread.NoStep → read_started reader.old ≡ None }
 {
-    Ok(Step::Started(reader.number()?))
+    Ok(Step::Started(reader.front.number()?))
 }
 
 fn firm(reader: &mut StepReader<'_>) -> Result<Step, Unread>
     ensures value { IfOk result (λ step. read_firm reader.old ≡ Some (step_of step, reader.new)) }
     ensures no_step { result ≡ Err Unread.NoStep → read_firm reader.old ≡ None }
 {
-    Ok(Step::Firm(reader.version()?))
+    Ok(Step::Firm(reader.front.version()?))
 }
 
 fn trim(reader: &mut StepReader<'_>) -> Result<Step, Unread>
     ensures value { IfOk result (λ step. read_trim reader.old ≡ Some (step_of step, reader.new)) }
     ensures no_step { result ≡ Err Unread.NoStep → read_trim reader.old ≡ None }
 {
-    Ok(Step::Trim(reader.version()?))
+    Ok(Step::Trim(reader.front.version()?))
 }
 
 fn put(reader: &mut StepReader<'_>) -> Result<Step, Unread>
@@ -138,7 +138,7 @@ fn put(reader: &mut StepReader<'_>) -> Result<Step, Unread>
     ensures no_step { result ≡ Err Unread.NoStep → read_put reader.old ≡ None }
 {
     let name = reader.name()?;
-    let size = reader.number()?;
+    let size = reader.front.number()?;
     let bytes = reader.counted()?;
     let attrs = reader.attrs()?;
     Ok(Step::Put {
@@ -160,8 +160,8 @@ fn reset(reader: &mut StepReader<'_>) -> Result<Step, Unread>
     ensures value { IfOk result (λ step. read_reset reader.old ≡ Some (step_of step, reader.new)) }
     ensures no_step { result ≡ Err Unread.NoStep → read_reset reader.old ≡ None }
 {
-    let version = reader.version()?;
-    let epoch = reader.number()?;
+    let version = reader.front.version()?;
+    let epoch = reader.front.number()?;
     Ok(Step::Reset(version, epoch))
 }
 
@@ -194,6 +194,6 @@ pub(crate) fn read_step(reader: &mut StepReader<'_>) -> Result<Step, Unread>
     ensures value { IfOk result (λ step. read_step reader.old ≡ Some (step_of step, reader.new)) }
     ensures no_step { result ≡ Err Unread.NoStep → read_step reader.old ≡ None }
 {
-    let kind = reader.byte()?;
+    let kind = reader.front.byte()?;
     of_kind(reader, kind)
 }
