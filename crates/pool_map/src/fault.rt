@@ -1,9 +1,9 @@
 //! Why a call on a pool's map does not succeed.
 ghost use Rattle.std.specs.Prelude.{◌≡◌};
-ghost use Rattle.pool_map.specs.declared.fault.MapFault.TheVariants.{Failed as SlotFailed, NoMemory as OutOfMemory};
+ghost use Rattle.pool_map.specs.declared.fault.MapFault.TheVariants.{Failed as SlotFailed, BadMap as NoMap, NoMemory as OutOfMemory};
 ghost use Rattle.pool_map.specs.Faults.{of_journal};
 
-use ec_words::NoMemory;
+use ec_words::{Ended, NoMemory};
 use rig_disk::Failed;
 use slot_journal::JournalFault;
 use std::alloc::AllocError;
@@ -34,6 +34,14 @@ impl From<Failed> for MapFault {
 
     fn from(_: Failed) -> MapFault {
         MapFault::Failed
+    }
+}
+
+impl From<Ended> for MapFault {
+    ghost from_gives = { λ _ fault. fault ≡ NoMap };
+
+    fn from(_: Ended) -> MapFault {
+        MapFault::BadMap
     }
 }
 
