@@ -1,4 +1,4 @@
--- Of which intervals the eligible slots do not decide all.
+-- The intervals whose eligible members do not decide all.
 use Rattle.std.proofs.Common.{◌≡◌, ◌↔◌, ◌<◌, ◌≤◌, ◌+◌, ◌-◌, ◌^◌, ◌⊎◌, inl, inr, ℕ, Bool, List, Option, Some, None, IsTrue, bit_and, min, slice_get, refl, sym, ap, ◌∙◌, subst, arith}
 use Rattle.std.specs.Option.{is_some, unwrap_or}
 use Rattle.std.proofs.lemmas.Bool.{cases_eq, false≢true}

@@ -19,7 +19,7 @@ use Rattle.auth_log.proofs.OrderLemmas.{AreSame, said_once}
 abbrev pub is_alive_in : ℕ → Interval → Bool
 is_alive_in epoch interval = interval.epoch == epoch && is_some interval.alive
 
--- some interval passes the test where one of this epoch went alive
+-- some interval passes the test if one of this epoch went alive
 pub alive_passes : (kept : List Interval) (epoch joined : ℕ) (base : Version) → WentAlive kept epoch joined base → list_any (is_alive_in epoch) kept ≡ true
 alive_passes kept epoch joined base h = any_passes_from_place (is_alive_in epoch) kept h.place h.interval h.there passes where
   passes : is_alive_in epoch h.interval ≡ true
@@ -30,7 +30,7 @@ pub some_of : {X : Type 0} (o : Option X) → is_some o ≡ true → (x : X) × 
 some_of None h = absurd (cc)
 some_of (Some x) h = (x, refl)
 
--- one of this epoch went alive where some interval passes the test
+-- one of this epoch went alive if some interval passes the test
 pub passes_alive : (kept : List Interval) (epoch : ℕ) → list_any (is_alive_in epoch) kept ≡ true → (joined : ℕ) × ((base : Version) × WentAlive kept epoch joined base)
 passes_alive kept epoch h =
     let found = Any-from_list_any (is_alive_in epoch) kept h in

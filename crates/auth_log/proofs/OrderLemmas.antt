@@ -117,7 +117,7 @@ up_to_refl a = grind (arith, common_steps)
 up_to_other : (a b : Version) → is_up_to a b ≡ false → is_up_to b a ≡ true
 up_to_other a b p = grind (arith, common_steps)
 
--- the slots that started the epoch: none is left out where one more slot did not start it
+-- the slots that started the epoch: none is left out if one more slot did not start it
 other_epoch : (among more : ℕ → Info → Type 0) (p epoch : ℕ) (info : Info) (least : Option Version) → AddsOne among p info more
     → (info.les ≡ epoch → ⊥) → IsLeastSoFar among epoch least → IsLeastSoFar more epoch least
 other_epoch among more p epoch info None adds ne h = λ s. h (elim (adds.no_others s.p s.info s.is_in) [
@@ -132,7 +132,7 @@ other_epoch among more p epoch info (Some version) adds ne h = (
   record { p = h.1.p; info = h.1.info; is_in = adds.keeps h.1.p h.1.info h.1.is_in; started = h.1.started; headed = h.1.headed },
 )
 
--- its head is the least where it is first, or less than the one before
+-- its head is the least if it is first, or less than the one before
 new_head : (among more : ℕ → Info → Type 0) (p epoch : ℕ) (info : Info) → AddsOne among p info more → info.les ≡ epoch
     → ((q : ℕ) (other : Info) → among q other → other.les ≡ epoch → is_up_to info.head other.head ≡ true)
     → IsLeastSoFar more epoch (Some info.head)

@@ -20,7 +20,7 @@ joined_set peers survey holds s p = (
   λ found. (has_both holds survey.eligible p).1 (found.0, (s.eligible p).1 found.1),
 )
 
--- the state where the eligible slots are sufficient
+-- the state if the eligible slots are sufficient
 pub state_joined : (code : CodeRows) (peers : PeeringInput) (survey : Survey) (min holds : ℕ) (state : State) → IsSurvey peers survey → IsSufficient code peers
     → IsStateOfJoined code survey (bit_and holds survey.eligible) min state → IsState code peers min holds state
 state_joined code peers survey min holds (Down epoch eligible) s good h = inr (record {
@@ -42,7 +42,7 @@ state_joined code peers survey min holds (Active members) s good h = (
   subst (λ (j : ℕ). min ≤ count_below j code.n) (sym h.0) h.1.1,
 )
 
--- ---- where each set decides all or does not, there is a state
+-- ---- if each set decides all or does not, there is a state
 
 module _ (code : CodeRows) (decided : (from : ℕ) → DecidesAll code from ⊎ (DecidesAll code from → ⊥)) where
   by_alive : (eligible epoch : ℕ) (interval : Interval) (o : Option (ℕ × Version)) → interval.alive ≡ o

@@ -13,7 +13,7 @@ pub record Info : Type 0 where
   pub head : Version
   pub partial : Bool
 
--- what a choice rests on beside the code: the intervals that are kept, what the shard of each slot says where it says anything,
+-- what a choice rests on beside the code: the intervals that are kept, what the shard of each slot says if it says anything,
 -- and the mask of the slots that are up
 pub record PeeringInput : Type 0 where
   pub kept : List Interval
@@ -57,7 +57,7 @@ pub record HasStarted (among : ℕ → Info → Type 0) (epoch : ℕ) : Type 0 w
   pub is_in : among p info
   pub started : info.les ≡ epoch
 
--- the greatest epoch that a slot of a set started, and 0 where there is no slot in it
+-- the greatest epoch that a slot of a set started, and 0 if no slot is in it
 pub record IsGreatestEpoch (among : ℕ → Info → Type 0) (epoch : ℕ) : Type 0 where
   pub greatest : (p : ℕ) (info : Info) → among p info → info.les ≤ epoch
   pub started : HasStarted among epoch ⊎ (IsEmpty among × (epoch ≡ 0))
@@ -70,13 +70,13 @@ pub record HasHead (among : ℕ → Info → Type 0) (epoch : ℕ) (version : Ve
   pub started : info.les ≡ epoch
   pub headed : info.head ≡ version
 
--- the least head of the slots of a set that started this epoch last, and (0, 0) where there is none
+-- the least head of the slots of a set that started this epoch last, and (0, 0) if none did
 pub record IsLeastHead (among : ℕ → Info → Type 0) (epoch : ℕ) (version : Version) : Type 0 where
   pub least : (p : ℕ) (info : Info) → among p info → info.les ≡ epoch → is_up_to version info.head ≡ true
   pub headed : HasHead among epoch version ⊎ ((HasStarted among epoch → ⊥) × (version ≡ zero_version))
 
--- what the eligible slots say together: their mask, the greatest epoch that they started, and the authoritative version, which
--- is the least head of those that started it
+-- what the eligible slots say together: their mask, the greatest epoch that they started, and the authoritative version. That is
+-- the least head of those that started this epoch
 pub record Survey : Type 0 where
   pub eligible : ℕ
   pub epoch : ℕ
@@ -116,7 +116,7 @@ pub record IsBlocked (code : CodeRows) (peers : PeeringInput) (epoch up : ℕ) :
   pub undecided : IsUndecided code peers survey epoch
   pub least : (other : ℕ) → IsUndecided code peers survey other → epoch ≤ other
 
--- what is chosen where the eligible slots are sufficient: the authoritative version, and the greatest epoch that they started
+-- what is chosen if the eligible slots are sufficient: the authoritative version, and the greatest epoch that they started
 pub record IsChosen (code : CodeRows) (peers : PeeringInput) (epoch : ℕ) (version : Version) : Type 0 where
   pub sufficient : IsSufficient code peers
   pub survey : Survey

@@ -7,7 +7,7 @@ use Rattle.ec_words.specs.Intervals.{Interval}
 use Rattle.auth_log.specs.Choice.{Info, Survey, WentAlive, HasStarted, HasHead, DecidesAll}
 use Rattle.auth_log.specs.States.{State, Down, Short, Active}
 
--- what a shard says makes its slot eligible where it is up
+-- what a shard says makes its slot eligible if it is up
 pub record IsWholeAndStarted (kept : List Interval) (info : Info) : Type 0 where
   pub whole : info.partial ≡ false
   pub joined : ℕ
@@ -24,7 +24,7 @@ pub record IsSaidBelow (said : ℕ → Option Info) (mask bound p : ℕ) (info :
   pub below : p < bound
   pub is_said : IsSaid said mask p info
 
--- the least head of those that started an epoch, where any did
+-- the least head of those that started an epoch, if any did
 abbrev pub IsLeastSoFar : (ℕ → Info → Type 0) → ℕ → Option Version → Type 0
 IsLeastSoFar among epoch None = HasStarted among epoch → ⊥
 IsLeastSoFar among epoch (Some version) =
@@ -38,7 +38,7 @@ lesser_of (Some version) head = if is_up_to version head then version else head
 abbrev pub lesser : ℕ → Option Version → Info → Option Version
 lesser epoch least info = if info.les == epoch then Some (lesser_of least info.head) else least
 
--- where an interval went alive, in this epoch or later, the eligible members of its joined set decide all
+-- if an interval went alive, in this epoch or later, the eligible members of its joined set decide all
 pub record IsDecided (code : CodeRows) (eligible epoch : ℕ) (interval : Interval) : Type 0 where
   pub each : (joined : ℕ) (base : Version) → interval.alive ≡ Some (joined, base) → epoch ≤ interval.epoch
       → DecidesAll code (bit_and joined eligible)
@@ -52,7 +52,7 @@ pub record HasUndecided (code : CodeRows) (eligible epoch : ℕ) (intervals : Li
   pub dated : interval.epoch ≡ at
   pub undecided : IsDecided code eligible epoch interval → ⊥
 
--- the least epoch of those of the first intervals that are not decided, where there are any
+-- the least epoch of those of the first intervals that are not decided, if there are any
 abbrev pub IsLeastUndecided : CodeRows → ℕ → ℕ → List Interval → ℕ → Option ℕ → Type 0
 IsLeastUndecided code eligible epoch intervals bound None =
     (i : ℕ) (interval : Interval) → i < bound → slice_get intervals i ≡ Some interval → IsDecided code eligible epoch interval
@@ -65,7 +65,7 @@ abbrev pub earlier : Option ℕ → ℕ → ℕ
 earlier None epoch = epoch
 earlier (Some at) epoch = min at epoch
 
--- the state where the eligible slots are sufficient, by the slots that joined
+-- the state if the eligible slots are sufficient, by the slots that joined
 abbrev pub IsStateOfJoined : CodeRows → Survey → ℕ → ℕ → State → Type 0
 IsStateOfJoined code survey joined min (Down epoch eligible) =
     (DecidesAll code joined → ⊥) × ((epoch ≡ survey.epoch) × (eligible ≡ survey.eligible))

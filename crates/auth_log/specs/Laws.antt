@@ -41,7 +41,7 @@ BlockedIsOne = (code : CodeRows) (peers : PeeringInput) (epoch up : ℕ) → IsB
 abbrev pub StateIsOne : Type 0
 StateIsOne = (code : CodeRows) (peers : PeeringInput) (min holds : ℕ) (one other : State) → IsState code peers min holds one → IsState code peers min holds other → one ≡ other
 
--- where each set of positions decides all or does not, a pool has a state
+-- if each set of positions decides all or does not, a pool has a state
 abbrev pub StateIsThere : Type 0
 StateIsThere = (code : CodeRows) (peers : PeeringInput) (min holds : ℕ) → ((from : ℕ) → DecidesAll code from ⊎ (DecidesAll code from → ⊥)) → peers.up < 2 ^ 16
     → (state : State) × IsState code peers min holds state

@@ -3,18 +3,18 @@ use Rattle.std.specs.Prelude.{◌≡◌, ◌↔◌, ◌<◌, ◌≤◌, ◌⊎�
 use Rattle.ec_model.specs.Codes.{CodeRows, HasPosition, count_below}
 use Rattle.auth_log.specs.Choice.{Info, PeeringInput, Survey, IsEligible, IsSurvey, IsSufficient, IsBlocked, DecidesAll}
 
--- no version can be said, since of the interval of this epoch too few of the eligible slots are left; a version is said, and
--- fewer slots than `min` have joined; it serves with the slots that have joined
+-- no version can be said, since too few of the eligible slots are left of the interval of this epoch; a version is said, and
+-- fewer slots than `min` have joined; the pool serves with the slots that have joined
 pub data State : Type 0 where
   Down : (epoch eligible : ℕ) → State
   Short : (joined min : ℕ) → State
   Active : (joined : ℕ) → State
 
--- the eligible slots that hold the authoritative version, where `holds` is a mask of those that do
+-- the eligible slots that hold the authoritative version; `holds` is a mask of all slots that do
 abbrev pub IsJoinedSet : PeeringInput → ℕ → ℕ → Type 0
 IsJoinedSet peers holds joined = (p : ℕ) → HasPosition joined p ↔ (HasPosition holds p × ((info : Info) × IsEligible peers p info))
 
--- the slots that have joined where the eligible ones are sufficient
+-- the slots that have joined if the eligible ones are sufficient
 pub record Joins (code : CodeRows) (peers : PeeringInput) (holds joined : ℕ) : Type 0 where
   pub sufficient : IsSufficient code peers
   pub joined_set : IsJoinedSet peers holds joined

@@ -15,7 +15,7 @@ pub struct Choice {
     pub version: Version,
 }
 
-/// The least epoch of an interval of which too few of the eligible slots are left, and these slots.
+/// The least epoch of an interval that has too few eligible slots left, and these slots.
 #[derive(Clone, Copy, Debug, PartialEq, Eq, Error)]
 #[error("too few of the slots {up} joined epoch {epoch}")]
 pub struct Blocked {

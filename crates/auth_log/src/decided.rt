@@ -1,4 +1,4 @@
-//! Of which intervals the eligible slots do not decide all.
+//! The intervals whose eligible members do not decide all.
 ghost use Rattle.std.specs.Prelude.{◌≡◌, ◌↔◌, ℕ, IsTrue, Some, length};
 ghost use Rattle.ec_model.specs.Codes.{LiesBelow};
 ghost use Rattle.ec_model.specs.Versions.{Version as Base};

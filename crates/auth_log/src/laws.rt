@@ -31,7 +31,7 @@ pub fn state_is_one()
     ensures { StateIsOne }
 {}
 
-/// Where each set of positions decides all or does not, a pool has a state.
+/// If each set of positions decides all or does not, a pool has a state.
 pub fn state_is_there()
     ensures { StateIsThere }
 {}

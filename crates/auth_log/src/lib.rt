@@ -1,14 +1,15 @@
 //! The choice of the authoritative version, by what the shards that are up say of themselves.
 //!
-//! A slot is eligible where it is up and its shard is not partial and last started a kept interval that went alive. The eligible
-//! slots are sufficient where, of each kept interval that went alive from the greatest epoch on that they started, the members
-//! of its joined set among them decide all. The authoritative version is then the least head of those that started that epoch.
+//! A slot is eligible if it is up, its shard is not partial, and its shard last started a kept interval that went alive. Take the
+//! kept intervals that went alive, from the greatest epoch on that an eligible slot started. The eligible slots are sufficient if
+//! those of each such interval's joined set decide all. The authoritative version is then the least head of the slots that
+//! started that epoch.
 //!
-//! Headline: `choose` answers this version exactly where the slots are sufficient, and else the least epoch that stands against
-//! it (`choice`, `sufficient` and `blocked`, by `IsSufficient`, `IsChosen` and `IsBlocked` of specs/Choice.antt).
+//! Headline: `choose` answers this version exactly if the slots are sufficient, and else the least epoch that stands against it
+//! (`choice`, `sufficient` and `blocked`, by `IsSufficient`, `IsChosen` and `IsBlocked` of specs/Choice.antt).
 //!
-//! With three shards that started epoch 2 and whose heads are (2,2), (2,1) and (2,2), the version is (2,1); with the second one
-//! down it is (2,2).
+//! Three shards started epoch 2, and their heads are (2,2), (2,1) and (2,2). Then the version is (2,1). With the second one down
+//! it is (2,2).
 #![tactic(auto)]
 
 mod choice;

@@ -35,7 +35,7 @@ pub fn least_head(infos: &[Option<Info>; 16], set: Mask, epoch: u32) -> Version
     least.unwrap_or(Version { epoch: 0, seq: 0 })
 }
 
-/// The lesser of two heads, where the shard started this epoch last.
+/// The lesser of two heads, if the shard started this epoch last.
 fn lesser(least: Option<Version>, info: &Info, epoch: u32) -> Option<Version>
     ensures { result ≡ lesser epoch least info.now }
 {

@@ -15,8 +15,8 @@ use ec_words::{Intervals, Mask};
 /// Whether a pool serves, and else why it does not.
 #[derive(Clone, Copy, Debug, PartialEq, Eq)]
 pub enum State {
-    /// Of the interval of this epoch too few of the eligible slots `up` are left, or too few of them hold the authoritative version,
-    /// for all to be decided.
+    /// All is not decided, since too few of the eligible slots `up` are left of the interval of this epoch, or too few of them
+    /// hold the authoritative version.
     Down { epoch: u32, up: Mask },
     /// The slots that joined decide all, and are fewer than `min`.
     Short { joined: Mask, min: u8 },
@@ -25,8 +25,8 @@ pub enum State {
 }
 
 impl Survey {
-    /// The state of a pool that serves with `min` slots or more, of which this is the survey, and where `holds` are the slots that
-    /// hold the survey's version. The slots that join are the eligible ones of `holds`.
+    /// The state of a pool that serves with `min` slots or more. This is the pool's survey, and `holds` are the slots that hold
+    /// the survey's version. The slots that join are the eligible ones of `holds`.
     pub fn state(&self, intervals: &Intervals, code: &dyn Code, holds: Mask, min: u8) -> State
         requires joined { JoinedLieBelow (meaning code.now).n intervals.now }
         requires holds { LiesBelow (meaning code.now).n holds.0 }
@@ -42,7 +42,7 @@ impl Survey {
         }
     }
 
-    /// The same where the eligible slots are sufficient, by those that joined.
+    /// The same if the eligible slots are sufficient, by those that joined.
     fn state_of_joined(&self, code: &dyn Code, joined: Mask, min: u8) -> State
         requires { LiesBelow (meaning code.now).n joined.0 }
         ensures { IsStateOfJoined (meaning code.now) self.now joined.0 min (state_of result) }

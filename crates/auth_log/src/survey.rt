@@ -11,9 +11,9 @@ use std::marker::Model;
 #[derive(Clone, Copy, Debug, PartialEq, Eq)]
 pub struct Survey {
     pub eligible: Mask,
-    /// The greatest epoch that they started, and 0 where there are none.
+    /// The greatest epoch that they started, and 0 if no slot is eligible.
     pub epoch: u32,
-    /// The least head of those that started it, and (0, 0) where there are none.
+    /// The least head of those that started it, and (0, 0) if none did.
     pub version: Version,
 }
 

@@ -48,7 +48,7 @@ module _ {A : Type 0} (test : A → Bool) where
         | false ↦ λ is. more
       ] refl
 
-  -- where all pass nothing is left out
+  -- if all pass nothing is left out
   pub all_pass : (xs : List A) → ((i : ℕ) (x : A) → slice_get xs i ≡ Some x → test x ≡ true) → filter test xs ≡ xs
   all_pass [] each = refl
   all_pass (x ∷ xs) each = cond-true _ _ _ (each 0 x refl) ∙ ap (λ (l : List A). x ∷ l) (all_pass xs (λ i y e. each (suc i) y e))

@@ -8,8 +8,8 @@ use Rattle.std.proofs.lemmas.Nat.{and_le_r, or_lt, xor_lt, pow_pos}
 use Rattle.std.proofs.lemmas.Option.{slice_get-get_or, slice_get_within}
 use Rattle.ec_model.specs.Versions.{Version}
 use Rattle.ec_words.specs.Intervals.{Interval, went_alive, with_last_alive, WentAlive, JoinedLieBelow}
-use Rattle.map_model.specs.Laws.{GoesAlive}
-use Rattle.map_model.specs.States.{MapState, kept, new_state, with_intervals, with_marks, begun, fits, state_after, replay, last_of, last_epoch, epoch_of, epoch_limit, is_inside, may_join, with_mark}
+use Rattle.map_model.specs.Laws.{GoesAlive, AliveComesOnce}
+use Rattle.map_model.specs.States.{MapState, kept, new_state, with_intervals, with_marks, begun, fits, state_after, replay, last_of, last_epoch, epoch_of, epoch_limit, is_inside, may_join, awaits_alive, with_mark}
 use Rattle.map_model.specs.Sound.{IsOfPool, IsSound}
 use Rattle.map_model.specs.Steps.{MapStep, Begin, Alive, Mark}
 use Rattle.map_model.specs.Steps as step
@@ -24,7 +24,7 @@ got_more {A} [] y z (suc i) e = absurd (none_some z e)
 got_more {A} (x ∷ xs) y z zero e = inl e
 got_more {A} (x ∷ xs) y z (suc i) e = ⊎_elim (λ there. inl there) (λ last. inr (ap suc last.0, last.1)) (got_more xs y z i e)
 
--- the last interval, which went alive
+-- the last interval went alive
 record IsLastAlive (joined : ℕ) (base : Version) (intervals : List Interval) (i : ℕ) (interval : Interval) : Type 0 where
   last : Interval
   is_last : last_of intervals ≡ Some last
@@ -185,7 +185,7 @@ older_than_last n state last sound is unalive epoch joined w =
     none_some (joined, w.base) (sym unalive ∙ ap (λ (x : Interval). x.alive) (some_same last w.interval (sym there.there ∙ ap (slice_get state.intervals) (sym e) ∙ w.there)) ∙ w.alive) in
     omega (arith, within, there.long, own, sound.dated w.place w.interval w.there, w.dated, apart)
 
--- what joins is the last interval, which is not alive
+-- what joins is the last interval, and it is not alive
 pub record MayJoin (epoch joined : ℕ) (o : Option Interval) : Type 0 where
   pub last : Interval
   pub is : o ≡ Some last
@@ -224,3 +224,20 @@ newest_alive n state epoch joined base sound fit =
           let within = slice_get_within later.intervals w.place w.interval w.there in
           omega (arith, within, there.long, own, may.dated, after.dated w.place w.interval w.there, w.dated);
     }
+
+-- the last interval is awaited if it may be joined, and no longer once it went alive
+pub joins_awaited : (epoch joined : ℕ) (o : Option Interval) → may_join epoch joined o ≡ true → awaits_alive o ≡ true
+joins_awaited epoch joined None may = absurd (false≢true may)
+joins_awaited epoch joined (Some last) may =
+    let first = and_parts (last.epoch == epoch) _ may in
+    (and_parts (not (is_some last.alive)) _ first.1).0
+
+pub alive_not_awaited : (joined : ℕ) (base : Version) (intervals : List Interval) → awaits_alive (last_of (with_last_alive joined base intervals)) ≡ true → ⊥
+unfolding last_of with_last_alive
+alive_not_awaited joined base [] awaited = false≢true awaited
+alive_not_awaited joined base (x ∷ []) awaited = false≢true awaited
+alive_not_awaited joined base (x ∷ (y ∷ [])) awaited = alive_not_awaited joined base (y ∷ []) awaited
+alive_not_awaited joined base (x ∷ (y ∷ (z ∷ rest))) awaited = alive_not_awaited joined base (y ∷ (z ∷ rest)) awaited
+
+pub alive_once : AliveComesOnce
+alive_once n state epoch joined base later members from fit = alive_not_awaited joined base state.intervals (joins_awaited later members _ fit)

@@ -30,6 +30,11 @@ abbrev pub TheNewestGoesAlive : Type 0
 TheNewestGoesAlive = (n : ℕ) (state : MapState) (epoch joined : ℕ) (base : Version) → IsSound n state → fits n state (Alive epoch joined base) ≡ true
     → GoesAlive state epoch joined base
 
+-- an interval goes alive once: right behind an Alive step no other one fits
+abbrev pub AliveComesOnce : Type 0
+AliveComesOnce = (n : ℕ) (state : MapState) (epoch joined : ℕ) (base : Version) (later members : ℕ) (from : Version)
+    → fits n (state_after state (Alive epoch joined base)) (Alive later members from) ≡ true → ⊥
+
 -- an interval that went alive is older than the last one, if that one did not
 abbrev pub AliveAreOlder : Type 0
 AliveAreOlder = (n : ℕ) (state : MapState) (last : Interval) → IsSound n state → last_of state.intervals ≡ Some last → last.alive ≡ None

@@ -48,10 +48,15 @@ begun epoch up = record { epoch = epoch; up = up; alive = None }
 abbrev pub is_inside : ℕ → ℕ → Bool
 is_inside mask other = bit_and mask other == mask
 
--- the last interval has this epoch, is not alive, and has all these slots up, of which there are some
+-- the last interval has this epoch, is not alive, and has all these slots up, and there is at least one of them
 abbrev pub may_join : ℕ → ℕ → Option Interval → Bool
 may_join epoch joined None = false
 may_join epoch joined (Some last) = (last.epoch == epoch) && (not (is_some last.alive) && (is_inside joined last.up && nat_lt 0 joined))
+
+-- there is a last interval, and it is not alive
+abbrev pub awaits_alive : Option Interval → Bool
+awaits_alive None = false
+awaits_alive (Some last) = not (is_some last.alive)
 
 -- a mask with or without a position
 abbrev pub with_mark : ℕ → ℕ → ℕ → ℕ

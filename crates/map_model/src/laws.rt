@@ -1,5 +1,5 @@
 //! Laws about the definitions alone. Each is the contract of a function with an empty body.
-ghost use Rattle.map_model.specs.Laws.{LastIsTheAdded, LastEpochIsTheCount, TheNewestGoesAlive, AliveAreOlder, NewStatesAreSound, StepsKeepSound, ReplaysKeepSound, KeptAreByPlaces, JoinedSetsLieBelow, InsideByPositions, MarksAreByPositions};
+ghost use Rattle.map_model.specs.Laws.{LastIsTheAdded, LastEpochIsTheCount, TheNewestGoesAlive, AliveComesOnce, AliveAreOlder, NewStatesAreSound, StepsKeepSound, ReplaysKeepSound, KeptAreByPlaces, JoinedSetsLieBelow, InsideByPositions, MarksAreByPositions};
 
 /// The last of some intervals with one more is that one.
 pub fn last_is_the_added()
@@ -14,6 +14,11 @@ pub fn last_epoch_is_the_count()
 /// An interval that goes alive is the last one, and the newest of all that are alive.
 pub fn the_newest_goes_alive()
     ensures { TheNewestGoesAlive }
+{}
+
+/// An interval goes alive once.
+pub fn alive_comes_once()
+    ensures { AliveComesOnce }
 {}
 
 /// An interval that went alive is older than the last one, if that one did not.

@@ -9,6 +9,7 @@
 mod laws;
 
 pub use laws::{
-    alive_are_older, kept_are_by_places, last_epoch_is_the_count, last_is_the_added,
-    masks_are_by_positions, sound_states_join_below, steps_keep_sound, the_newest_goes_alive,
+    alive_are_older, alive_comes_once, kept_are_by_places, last_epoch_is_the_count,
+    last_is_the_added, masks_are_by_positions, sound_states_join_below, steps_keep_sound,
+    the_newest_goes_alive,
 };

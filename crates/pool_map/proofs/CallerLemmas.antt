@@ -1,5 +1,5 @@
 -- What callers need in order to make a map, and to add steps.
-use Rattle.std.proofs.Common.{◌≡◌, ◌<◌, ◌==◌, ◌&&◌, nat_lt, ℕ, true, List, [], ◌∷◌, ◌++◌, Option, Some, refl, sym, subst, arith}
+use Rattle.std.proofs.Common.{◌≡◌, ◌<◌, ℕ, true, List, [], ◌∷◌, ◌++◌, Option, Some, sym, subst, arith}
 use Rattle.std.proofs.lemmas.Bool.Decides.{nat_tests}
 use Rattle.ec_code.specs.declared.profile.Profile.{Profile}
 use Rattle.ec_words.specs.Intervals.{Interval}

@@ -9,7 +9,7 @@ use Rattle.pool_map.specs.Laws.{HasSlotOf, AnyStep, MapsStayHeld, MapsStayElsewh
 use Rattle.pool_map.specs.Maps.{map_head}
 use Rattle.pool_map.specs.Pool.{journal_of, map_of}
 
--- what a journal over a slot holds stays so where the slot does
+-- what a journal over a slot holds stays so if the slot does
 module _ (reads later_reads : ℕ → ℕ → Option (List ℕ)) (images later : Image → List ℕ → Type 0) (journal : Journal)
     (same : (a : ℕ) → later_reads (slot_of journal) a ≡ reads (slot_of journal) a)
     (from : (image : Image) (said : List ℕ) → later image said → HasSlotOf images (slot_of journal) image) where

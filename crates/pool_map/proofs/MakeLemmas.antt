@@ -18,7 +18,7 @@ use Rattle.ec_code.proofs.GivenLemmas.{of_settings, of_text}
 use Rattle.ec_words.specs.Intervals.{Interval, with_last_alive}
 use Rattle.plugin_reg.specs.Canonical.{canonical_lines, lines_of, settings_by, lrc_settings, least_of, PrintsAgain}
 use Rattle.ec_words.specs.Readers.{version_bytes}
-use Rattle.map_model.specs.States.{MapState, new_state, with_intervals, last_of, fits, state_after, replay, begun, is_inside}
+use Rattle.map_model.specs.States.{MapState, new_state, with_intervals, last_of, fits, state_after, begun, is_inside}
 use Rattle.pool_map.specs.Maps.{Leads, IsMapOf, IsCanonical, map_format}
 use Rattle.pool_map.specs.Pool.{all_of, first_interval, new_map}
 use Rattle.map_model.specs.Steps.{Begin, Alive, Profile}

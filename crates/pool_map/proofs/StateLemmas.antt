@@ -1,12 +1,11 @@
 -- States that steps lead to.
-use Rattle.std.proofs.Common.{◌≡◌, ℕ, zero, suc, ◌+◌, ◌-◌, ◌<◌, true, false, cond, List, [], ◌∷◌, ◌++◌, length, slice_get, refl, sym, ap, subst, ◌∙◌, Option, Some, None, arith}
+use Rattle.std.proofs.Common.{◌≡◌, ℕ, ◌+◌, ◌<◌, true, false, List, [], ◌∷◌, ◌++◌, length, refl, sym, ap, subst, ◌∙◌, Some, None, arith}
 use Rattle.std.specs.List.{AllByRecursion}
-use Rattle.std.proofs.lemmas.Bool.{false≢true, cond-true}
+use Rattle.std.proofs.lemmas.Bool.{false≢true}
 use Rattle.std.proofs.lemmas.List.{length-append}
-use Rattle.ec_words.specs.Intervals.{Interval}
 use Rattle.ec_words.specs.Readers.{AreBytes}
 use Rattle.ec_words.proofs.ReaderLemmas.{rest_bytes, not_read, same_read}
-use Rattle.map_model.specs.States.{MapState, fits, state_after, replay, last_of}
+use Rattle.map_model.specs.States.{MapState, fits, state_after, replay}
 use Rattle.pool_map.specs.Maps.{Leads, LeadAll}
 use Rattle.map_model.specs.Steps.{MapStep, Profile, Begin, Alive, Mark}
 use Rattle.pool_map.specs.Steps.{step_bytes, steps_bytes, IsWritable}
@@ -64,7 +63,7 @@ module _ (n : ℕ) (state later : MapState) where
             )
       ] leads.writable leads.bytes leads.done
 
-  -- where no step is read, and something is left, the body leads nowhere
+  -- if no step is read, and something is left, the body leads nowhere
   pub led_nowhere : (left : List ℕ) → 0 < length left → read_step left ≡ None → Leads n state left later → ⊥
   led_nowhere left some read leads =
       elim leads.steps as (λ steps. AllByRecursion IsWritable steps → left ≡ steps_bytes steps → ⊥) [

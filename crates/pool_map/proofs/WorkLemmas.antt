@@ -1,6 +1,5 @@
 -- One step more on a map: its text and its moments.
-use Rattle.std.proofs.Common.{◌+◌, ◌<◌, ◌^◌, Bool, false, if◌then◌else◌, ◌≡◌, inl, inr, ⊎_elim, ◌++◌, ◌∷◌, [], ℕ, List, Option, Ok, Some, true, length, arith, refl, sym, ap, subst, ◌∙◌}
-use Rattle.std.proofs.lemmas.Bool.{cond-true}
+use Rattle.std.proofs.Common.{◌+◌, ◌<◌, ◌^◌, Bool, false, if◌then◌else◌, ◌≡◌, inl, inr, ⊎_elim, ◌++◌, ◌∷◌, [], ℕ, List, Option, Ok, true, length, arith, refl, sym, ap, subst, ◌∙◌}
 use Rattle.std.proofs.lemmas.Bool.Decides.{nat_tests}
 use Rattle.std.proofs.lemmas.List.{append-nil, length-append}
 use Rattle.ec_code.specs.declared.profile.Profile.{Profile as Plain}
@@ -15,7 +14,7 @@ use Rattle.slot_journal.specs.Journal.{Holds, InSlot, Commits, Makes, gate_of, s
 use Rattle.slot_journal.specs.Text.{IsText}
 use Rattle.slot_journal.specs.Writing.{next_gate}
 use Rattle.slot_journal.specs.declared.journal.Journal.{Journal}
-use Rattle.map_model.specs.States.{MapState, last_epoch, epoch_limit, fits, state_after, replay}
+use Rattle.map_model.specs.States.{MapState, last_epoch, epoch_limit, fits, state_after}
 use Rattle.pool_map.specs.Maps.{PoolImage, Leads, LeadAll, map_slot, map_format, format_in, map_head, IsMapOf}
 use Rattle.map_model.proofs.ReplayLemmas.{one_step}
 use Rattle.pool_map.proofs.TextLemmas.{text_gives, gives_own}

@@ -13,7 +13,7 @@ of_journal (journal.BadSlot at) = map.BadMap
 of_journal journal.Spent = map.Failed
 of_journal journal.NoMemory = map.NoMemory
 
--- the slot's count of faults rose where the answer is `Failed`, and else it is as it was
+-- the slot's count of faults rose if the answer is `Failed`, and else it is as it was
 pub record HasMapCause {T : Type 0} (before now : ℕ) (result : Result T MapFault) : Type 0 where
   pub failed : IsErrOf result map.Failed → Rose before now
   pub quiet : (IsErrOf result map.Failed → ⊥) → now ≡ before

@@ -34,7 +34,7 @@ pub record HasSlotOf (images : Image → List ℕ → Type 0) (slot : ℕ) (imag
 abbrev pub AnyStep : Areas → Areas → Type 0
 AnyStep before after = Unit {0}
 
--- a map that was held is held, and its journal is settled where it was
+-- a map that was held is held, and its journal is settled if it was
 abbrev pub IsHeldOn : {R : Type 0} → (R → ℕ → ℕ → Option (List ℕ)) → (R → ℕ) → (R → ℕ → Image → List ℕ → Type 0) → R → R → Type 0
 IsHeldOn reads_of clock_of images_of old new =
     (map : PoolMap)
@@ -43,7 +43,7 @@ IsHeldOn reads_of clock_of images_of old new =
     × (IsSettledWhereTold (reads_of old) (images_of old (clock_of old)) (journal_of map)
     → IsSettledWhereTold (reads_of new) (images_of new (clock_of new)) (journal_of map))
 
--- a map stays held where its slot reads the same, and each image has there what some image had
+-- a map stays held if its slot reads the same, and each image has in that slot what some image had
 abbrev pub MapsStayHeld : {R : Type 0} → (R → ℕ → ℕ → Option (List ℕ)) → (R → ℕ) → (R → ℕ → Image → List ℕ → Type 0) → Type 0
 MapsStayHeld {R} reads_of clock_of images_of =
     (old new : R) → ((a : ℕ) → reads_of new 16 a ≡ reads_of old 16 a)

@@ -1,3 +1,5 @@
+pub mod Boxes
+pub mod Calls
 pub mod Faults
 pub mod Laws
 pub mod Maps

@@ -55,7 +55,7 @@ with_state m state = record { profile = m.profile; n = m.n; state = state }
 abbrev pub without_profile : PoolImage → MapImage
 without_profile m = record { n = m.n; state = m.state }
 
--- lines are the canonical ones of an accepted profile, which they are read as, and whose code has these numbers
+-- lines are read as an accepted profile and are its canonical lines; its code has these numbers
 pub record IsCanonical (lines : List ℕ) (p : Profile) (k n unit : ℕ) : Type 0 where
   pub lead : ℕ
   pub code : CodeRows

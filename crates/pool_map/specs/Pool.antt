@@ -38,14 +38,14 @@ pub record HoldsMap (reads : ℕ → ℕ → Option (List ℕ)) (images : Image 
 abbrev pub map_after : PoolImage → MapStep → PoolImage
 map_after m step = with_state m (state_after m.state step)
 
--- a step on the map at each of its instants: one area alone changes, and where the map was held, the slot has the map of
+-- a step on the map at each of its instants: one area alone changes, and if the map was held, the slot has the map of
 -- before, or the one with the step
 pub record Steps (reads : ℕ → ℕ → Option (List ℕ)) (images : Image → List ℕ → Type 0) (journal : Journal) (m : PoolImage) (step : MapStep)
     (before after : Areas) : Type 0 where
   pub others : (a : ℕ) → (a ≡ area_of journal → ⊥) → after a ≡ before a
   pub maps : (text : List ℕ) → HoldsMap reads images journal m text → HasMap after m ⊎ HasMap after (map_after m step)
 
--- this value began the last interval, which is not alive
+-- this value has begun an interval
 abbrev pub has_begun : PoolMap → Bool
 has_begun map = map.began
 

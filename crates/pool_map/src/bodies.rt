@@ -1,9 +1,8 @@
 //! The map that the bodies of a text's records are.
-ghost use Rattle.std.specs.Prelude.{◌≡◌, ◌≢◌, ◌⊎◌, ◌≤◌, ◌<◌, ◌++◌, ◌∷◌, ℕ, List, IfOk, IfErr, Err, length, slice_index_or};
-ghost use Rattle.ec_code.specs.Profiles.{name_of};
-ghost use Rattle.ec_code.specs.Refusals.{IsCodeOf};
+ghost use Rattle.std.specs.Prelude.{◌≡◌, ◌⊎◌, ◌≤◌, ◌++◌, ◌∷◌, ℕ, List, IfOk, IfErr, Err};
 ghost use Rattle.ec_words.specs.Readers.{IsCounted};
 ghost use Rattle.map_model.specs.States.{MapState, new_state};
+ghost use Rattle.pool_map.specs.Boxes.{HaveEachPlugin, KeepNames, IsOpened};
 ghost use Rattle.pool_map.specs.Maps.{PoolImage, LeadAll, IsMapOf, map_format};
 ghost use Rattle.pool_map.specs.Meanings.{state_of, image_of};
 ghost use Rattle.pool_map.specs.Steps.{step_bytes};
@@ -26,7 +25,7 @@ pub(crate) struct First<'a> {
     pub rest: &'a [u8],
 }
 
-/// The map's first step, which is its profile.
+/// The map's first step: its profile.
 fn read_first<'a>(alloc: Global, body: &'a [u8]) -> Result<First<'a>, MapFault>
     ensures counted { IfOk result (λ first. IsCounted first.lines) }
     ensures bytes { IfOk result (λ first. body.now ≡ step_bytes (steps.Profile first.lines) ++ first.rest.now) }
@@ -68,20 +67,14 @@ pub(crate) fn read_map(
     bodies: &[Bytes],
     codes: &mut [Box<dyn Code>],
 ) -> Result<(State, Opened), MapFault>
-    requires { (q : _) → (i : ℕ) × (i < length codes.old) × ((d : _) → plugin_name (slice_index_or codes.old i d) ≡ name_of q) }
+    requires { HaveEachPlugin (λ box. plugin_name box) codes.old }
     ensures ok { IfOk result (λ read. IsMapOf k unit map_format bodies.now (image_of read.1.profile read.0)) }
     ensures n { IfOk result (λ read. read.0.n ≡ n) }
+    ensures opened { IfOk result (λ read. IsOpened (λ box. plugin_name box) (λ box. meaning box)
+        read.1.profile n codes.old codes.new read.1.index) }
     ensures bad { result ≡ Err MapFault.BadMap → (m : PoolImage) → m.n ≡ n → IsMapOf k unit map_format bodies.now m → ⊥ }
     ensures plain { IfErr result (λ fault. (fault ≡ MapFault.BadMap) ⊎ (fault ≡ MapFault.NoMemory)) }
-    ensures below { IfOk result (λ read. read.1.index < length codes.new) }
-    ensures named { IfOk result (λ read. (d : _) → plugin_name (slice_index_or codes.old read.1.index d) ≡ name_of read.1.profile.plugin) }
-    ensures first { IfOk result (λ read. (j : ℕ) (d : _) → j < read.1.index
-        → plugin_name (slice_index_or codes.old j d) ≢ name_of read.1.profile.plugin) }
-    ensures made { IfOk result (λ read. (d : _) → IsCodeOf read.1.profile (meaning (slice_index_or codes.new read.1.index d))) }
-    ensures positions { IfOk result (λ read. (d : _) → (meaning (slice_index_or codes.new read.1.index d)).n ≡ n) }
-    ensures others { IfOk result (λ read. (j : ℕ) (d : _) → j ≢ read.1.index → slice_index_or codes.new j d ≡ slice_index_or codes.old j d) }
-    ensures boxes { length codes.new ≡ length codes.old }
-    ensures kept { (j : ℕ) (d : _) → plugin_name (slice_index_or codes.new j d) ≡ plugin_name (slice_index_or codes.old j d) }
+    ensures boxes { KeepNames (λ box. plugin_name box) codes.old codes.new }
 {
     if bodies.is_empty() {
         return Err(MapFault::BadMap);

@@ -1,11 +1,9 @@
 //! The first record of a new pool's map.
 ghost use Rattle.std.specs.Prelude.{◌≡◌, ◌⊎◌, ◌≤◌, ◌+◌, ◌++◌, ◌∷◌, [], ℕ, List, length, IfOk, IfErr, Ok};
-ghost use Rattle.ec_model.specs.Codes.{CodeRows};
 ghost use Rattle.ec_model.specs.Versions.{zero_version};
 ghost use Rattle.ec_code.specs.JsonProfiles.{profile_of_bytes};
-ghost use Rattle.ec_code.specs.Refusals.{IsAccepted, IsCodeOf};
-ghost use Rattle.ec_code.specs.Shapes.{HasShape};
-ghost use Rattle.plugin_reg.specs.Canonical.{IsWritable, canonical_lines};
+ghost use Rattle.plugin_reg.specs.Canonical.{canonical_lines};
+ghost use Rattle.pool_map.specs.Calls.{MayBeMade};
 ghost use Rattle.pool_map.specs.Maps.{IsMapOf, map_format};
 ghost use Rattle.pool_map.specs.Pool.{all_of, new_map, IsNewMap};
 ghost use Rattle.pool_map.specs.Steps.{step_bytes};
@@ -59,9 +57,7 @@ pub(crate) fn first_body(
     profile: &Profile,
     shape: Shape,
 ) -> Result<FirstBody, MapFault>
-    requires accepted { IsAccepted profile.now }
-    requires writable { IsWritable profile.now }
-    requires shape { (code : CodeRows) × IsCodeOf profile.now code × HasShape code shape.k shape.n shape.lead }
+    requires { MayBeMade profile.now shape.k shape.n shape.lead }
     ensures ok { IfOk result (λ first. IsMapOf shape.k first.profile.stripe_unit map_format (first.body ∷ []) (new_map first.profile shape.n)) }
     ensures new { IfOk result (λ first. profile_of_bytes (canonical_lines profile.now shape.k shape.n) ≡ Ok first.profile) }
     ensures some { IfOk result (λ first. 1 ≤ length first.body) }

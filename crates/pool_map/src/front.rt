@@ -10,8 +10,7 @@ use crate::limits::{AREA, MAP_SLOT};
 use rig_disk::{Failed, Rig};
 use slot_journal::{HEADER_LEN, OPEN_GATE};
 
-/// Reads the first bytes of the map's text, where it has one that is no shorter than a header. All of it is on the disk
-/// then.
+/// Reads the first bytes of the map's text, if there is one that is no shorter than a header. All of it is on the disk then.
 pub(crate) fn read_front<R: Rig>(rig: &mut R, front: &mut [u8; 24]) -> Result<bool, Failed>
     requires here { R.is_here rig.old 16 }
     ensures some { IfOk result (λ is. IsTrue is → (there : List ℕ) → R.reads rig.old 16 0 ≡ Some there

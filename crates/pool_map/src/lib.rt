@@ -2,7 +2,7 @@
 //! of slot 16.
 //!
 //! Headline: at each instant of `begin`, `alive` and `mark` each image of the slot has the map of before, or the one with the
-//! step ([`PoolMap`], `any_moment`, `Steps`); `load` gives exactly the map of the text in use (`HoldsMap`), or says that there
+//! step (`HasStepped`, `any_moment`); `load` gives exactly the map of the text in use (`HoldsMap`), or says that there
 //! is no pool, or that the text is no map.
 //!
 //! The first record of a pool of k=2, m=1 has the steps Profile, Begin(1, all) and Alive(1, all, (0, 0)). docs/FORMAT.md has

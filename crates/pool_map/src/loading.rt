@@ -1,14 +1,13 @@
 //! A pool's map from its slot.
-ghost use Rattle.std.specs.Prelude.{◌≡◌, ◌≢◌, ◌⊎◌, ◌≤◌, ◌<◌, ℕ, List, length, slice_index_or, Some, IfOk, IfErr, OnOk, Ok, Err, IsTrue, true, false};
-ghost use Rattle.ec_code.specs.Profiles.{name_of};
-ghost use Rattle.ec_code.specs.Refusals.{IsCodeOf};
+ghost use Rattle.std.specs.Prelude.{◌≡◌, ◌≤◌, ℕ, List, length, Some, IfOk, IfErr, OnOk, Ok, Err, IsTrue, false};
 ghost use Rattle.rig_disk.specs.During.{Only};
 ghost use Rattle.slot_journal.specs.InUse.{told_text};
-ghost use Rattle.slot_journal.specs.Journal.{IsSettledWhereTold, HaveInUse, is_spent};
 ghost use Rattle.slot_journal.specs.Reading.{SyncsAndReadsArea};
+ghost use Rattle.pool_map.specs.Boxes.{HaveEachPlugin, KeepNames, IsOpened};
+ghost use Rattle.pool_map.specs.Calls.{IsLoaded, IsNotLoaded};
 ghost use Rattle.pool_map.specs.Faults.{HasMapCause};
-ghost use Rattle.pool_map.specs.Maps.{PoolImage, IsNoPool, IsMapText};
-ghost use Rattle.pool_map.specs.Pool.{journal_of, map_of, HoldsMap};
+ghost use Rattle.pool_map.specs.Maps.{IsNoPool};
+ghost use Rattle.pool_map.specs.Pool.{map_of};
 
 use crate::MapFault;
 use crate::bodies::read_map;
@@ -29,35 +28,14 @@ impl PoolMap {
         rig: &mut R,
         codes: &mut [Box<dyn Code>],
     ) -> Result<(PoolMap, usize), MapFault>
-        requires { (q : _) → (i : ℕ) × (i < length codes.old) × ((d : _) → plugin_name (slice_index_or codes.old i d) ≡ name_of q) }
-        ensures ok { IfOk result (λ read. (text : List ℕ) → told_text 16 (R.reads rig.old 16) ≡ Some text
-            → HoldsMap (R.reads rig.new) (R.images rig.new (R.clock rig.new)) (journal_of read.0) (map_of read.0) text) }
-        ensures settled { IfOk result (λ read.
-            IsSettledWhereTold (R.reads rig.new) (R.images rig.new (R.clock rig.new)) (journal_of read.0)) }
-        ensures unspent { IfOk result (λ read. is_spent (journal_of read.0) ≡ false) }
-        ensures bad_map { result ≡ Err MapFault.BadMap → (text : List ℕ) → told_text 16 (R.reads rig.old 16) ≡ Some text
-            → (24 ≤ length text) × ((m : PoolImage) → IsMapText text m → ⊥) }
-        ensures bad_durable { result ≡ Err MapFault.BadMap → (text : List ℕ) → told_text 16 (R.reads rig.old 16) ≡ Some text
-            → HaveInUse (R.images rig.new (R.clock rig.new)) 16 text }
-        ensures no_pool { result ≡ Err MapFault.NoPool → R.is_here rig.old 16 → (text : List ℕ)
-            → told_text 16 (R.reads rig.old 16) ≡ Some text → IsNoPool text }
-        ensures nowhere { (R.is_here rig.old 16 → ⊥) → result ≡ Err MapFault.NoPool }
-        ensures long { IfOk result (λ read. (text : List ℕ) → told_text 16 (R.reads rig.old 16) ≡ Some text → 24 ≤ length text) }
-        ensures short { R.is_here rig.old 16 → (text : List ℕ) → told_text 16 (R.reads rig.old 16) ≡ Some text → IsNoPool text
-            → (result ≡ Err MapFault.NoPool) ⊎ (result ≡ Err MapFault.Failed) }
-        ensures plain { IfErr result (λ fault. (fault ≡ MapFault.Worn) → ⊥) }
-
+        requires { HaveEachPlugin (λ box. plugin_name box) codes.old }
+        ensures ok { IfOk result (λ read. IsLoaded R.reads R.clock R.images rig.old rig.new read.0) }
         // The box is the one that `pick` gives for the map's profile.
-        ensures below { IfOk result (λ read. read.1 < length codes.new) }
-        ensures named { IfOk result (λ read. (d : _) → plugin_name (slice_index_or codes.old read.1 d) ≡ name_of (map_of read.0).profile.plugin) }
-        ensures first { IfOk result (λ read. (j : ℕ) (d : _) → j < read.1
-            → plugin_name (slice_index_or codes.old j d) ≢ name_of (map_of read.0).profile.plugin) }
-        ensures made { IfOk result (λ read. (d : _) → IsCodeOf (map_of read.0).profile (meaning (slice_index_or codes.new read.1 d))) }
-        ensures positions { IfOk result (λ read. (d : _) → (meaning (slice_index_or codes.new read.1 d)).n ≡ (map_of read.0).n) }
-        ensures others { IfOk result (λ read. (j : ℕ) (d : _) → j ≢ read.1 → slice_index_or codes.new j d ≡ slice_index_or codes.old j d) }
-        ensures boxes { length codes.new ≡ length codes.old }
-        ensures names { (j : ℕ) (d : _) → plugin_name (slice_index_or codes.new j d) ≡ plugin_name (slice_index_or codes.old j d) }
+        ensures opened { IfOk result (λ read. IsOpened (λ box. plugin_name box) (λ box. meaning box)
+            (map_of read.0).profile (map_of read.0).n codes.old codes.new read.1) }
+        ensures refused { IsNotLoaded R.is_here R.reads R.clock R.images rig.old rig.new result }
         ensures only_if_fault { HasMapCause (R.faults rig.old 16) (R.faults rig.new 16) result }
+        ensures boxes { KeepNames (λ box. plugin_name box) codes.old codes.new }
         ensures kept { SyncsAndReadsArea R.is_here R.reads R.said R.clock R.images R.faults R.syncs R.bytes_written R.bytes_read
             16 0 2 (result ≡ Err MapFault.Failed) rig.old rig.new }
     {

@@ -1,16 +1,11 @@
 //! The map of a new pool.
-ghost use Rattle.std.specs.Prelude.{◌≡◌, ◌⊎◌, ◌≤◌, ◌∷◌, [], ℕ, List, Some, IfOk, IfErr, Err, false};
-ghost use Rattle.ec_model.specs.Codes.{CodeRows};
-ghost use Rattle.ec_code.specs.Refusals.{IsAccepted, IsCodeOf};
-ghost use Rattle.ec_code.specs.Shapes.{HasShape};
-ghost use Rattle.plugin_reg.specs.Canonical.{IsWritable};
+ghost use Rattle.std.specs.Prelude.{◌≡◌, ◌⊎◌, ◌≤◌, ◌∷◌, [], ℕ, List, Some, IfOk, IfErr, Err};
 ghost use Rattle.rig_disk.specs.During.{During};
-ghost use Rattle.rig_disk.specs.Frame.{Spends, KeepsOthers};
-ghost use Rattle.slot_journal.specs.InUse.{told_text};
-ghost use Rattle.slot_journal.specs.Journal.{IsSettledWhereTold, InSlot, is_spent};
+ghost use Rattle.slot_journal.specs.Journal.{InSlot};
 ghost use Rattle.slot_journal.specs.Limits.{make_syncs, make_reads};
+ghost use Rattle.pool_map.specs.Calls.{MayBeMade, IsMade, WorksOnMap};
 ghost use Rattle.pool_map.specs.Faults.{HasMapCause};
-ghost use Rattle.pool_map.specs.Pool.{journal_of, map_of, HoldsMap, IsNewMap, MakesMap};
+ghost use Rattle.pool_map.specs.Pool.{MakesMap};
 
 use crate::MapFault;
 use crate::first::{all_of, first_body};
@@ -51,24 +46,16 @@ impl PoolMap {
         shape: Shape,
     ) -> Result<PoolMap, MapFault>
         requires here { R.is_here rig.old 16 }
-        requires accepted { IsAccepted profile.now }
-        requires writable { IsWritable profile.now }
-        requires shape { (code : CodeRows) × IsCodeOf profile.now code × HasShape code shape.k shape.n shape.lead }
+        requires profile { MayBeMade profile.now shape.k shape.n shape.lead }
 
-        ensures ok { IfOk result (λ map. (text : List ℕ) → told_text 16 (R.reads rig.old 16) ≡ Some text
-            → (after : List ℕ) × HoldsMap (R.reads rig.new) (R.images rig.new (R.clock rig.new)) (journal_of map) (map_of map) after) }
-        ensures new { IfOk result (λ map. IsNewMap (map_of map) profile.now shape.k shape.n) }
-        ensures settled { IfOk result (λ map.
-            IsSettledWhereTold (R.reads rig.new) (R.images rig.new (R.clock rig.new)) (journal_of map)) }
-        ensures unspent { IfOk result (λ map. is_spent (journal_of map) ≡ false) }
+        ensures made { IfOk result (IsMade R.reads R.clock R.images profile.now shape.k shape.n rig.old rig.new) }
         ensures faults { IfErr result (λ fault. (fault ≡ MapFault.Failed) ⊎ (fault ≡ MapFault.NoMemory)) }
         ensures refused { result ≡ Err MapFault.NoMemory → rig.new ≡ rig.old }
         ensures only_if_fault { HasMapCause (R.faults rig.old 16) (R.faults rig.new 16) result }
         ensures any_moment { During R.clock R.images rig.old rig.new (InSlot (R.images rig.old (R.clock rig.old)) 16
             (MakesMap (R.reads rig.old 16) profile.now shape.k shape.n)) }
-        ensures counts { Spends R.syncs R.bytes_written R.bytes_read 16 make_syncs 4062 make_reads rig.old rig.new }
-        ensures kept { KeepsOthers R.is_here R.reads R.said R.faults R.syncs R.bytes_written R.bytes_read
-            16 0 rig.old rig.new }
+        ensures kept { WorksOnMap R.is_here R.reads R.said R.faults R.syncs R.bytes_written R.bytes_read
+            make_syncs 4062 make_reads rig.old rig.new }
     {
         let first = first_body(alloc, profile, shape)?;
         let intervals = first_intervals(alloc, all_of(shape.n))?;

@@ -29,7 +29,7 @@ pub(crate) fn last_epoch(intervals: &[Interval]) -> u32
     }
 }
 
-/// Whether the last interval has this epoch, is not alive, and has all these slots up, of which there are some.
+/// Whether the last interval has this epoch, is not alive, and has all these slots up, and there is at least one of them.
 fn may_join(epoch: u32, joined: Mask, last: Option<Interval>) -> bool
     ensures { result ≡ may_join epoch joined.0 last }
 {
@@ -131,7 +131,7 @@ impl State {
         Ok(())
     }
 
-    /// Adds a step, where it fits.
+    /// Adds a step, if it fits.
     fn apply(&mut self, step: &Step) -> Result<(), MapFault>
         ensures fit { OnOk result (fits self.old.n (state_of self.old) (step_of step.now) ≡ true) }
         ensures ok { OnOk result (state_of self.new ≡ state_after (state_of self.old) (step_of step.now)) }

@@ -8,7 +8,8 @@ ghost use Rattle.slot_journal.specs.Journal.{Holds, IsSettledWhereTold, IsFresh,
 ghost use Rattle.slot_journal.specs.Reading.{SyncsAndReadsArea};
 ghost use Rattle.slot_journal.specs.Text.{IsText};
 ghost use Rattle.pool_map.specs.Faults.{HasMapCause};
-ghost use Rattle.pool_map.specs.Maps.{map_head, IsNoPool};
+ghost use Rattle.pool_map.specs.Calls.{IsRead, IsNotRead};
+ghost use Rattle.pool_map.specs.Maps.{map_head};
 
 use crate::MapFault;
 use crate::front::read_front;
@@ -65,23 +66,9 @@ fn numbers_of(front: &[u8; 24]) -> Numbers
 /// Reads the map's text in use.
 pub(crate) fn load_text<R: Rig>(alloc: Global, rig: &mut R) -> Result<MapText, MapFault>
     requires here { R.is_here rig.old 16 }
-    ensures ok { IfOk result (λ read. (text : List ℕ) → told_text 16 (R.reads rig.old 16) ≡ Some text
-        → Holds (R.reads rig.new) (R.images rig.new (R.clock rig.new)) read.journal
-        (map_head read.numbers.k read.numbers.n read.numbers.unit) read.bodies text) }
-    ensures numbers { IfOk result (λ read. (text : List ℕ) → told_text 16 (R.reads rig.old 16) ≡ Some text
-        → (k n unit : ℕ) (bodies : List (List ℕ)) (place : ℕ) → IsWord unit → IsText (map_head k n unit) bodies place text
-        → (k ≡ read.numbers.k) × ((n ≡ read.numbers.n) × (unit ≡ read.numbers.unit))) }
-    ensures long { IfOk result (λ read. (text : List ℕ) → told_text 16 (R.reads rig.old 16) ≡ Some text → 24 ≤ length text) }
-    ensures settled { IfOk result (λ read.
-        IsSettledWhereTold (R.reads rig.new) (R.images rig.new (R.clock rig.new)) read.journal) }
-    ensures fresh { IfOk result (λ read. IsFresh read.journal 16) }
-    ensures bad { result ≡ Err MapFault.BadMap → (text : List ℕ) → told_text 16 (R.reads rig.old 16) ≡ Some text → (24 ≤ length text)
-        × ((k n unit : ℕ) (bodies : List (List ℕ)) (place : ℕ) → IsWord unit → IsText (map_head k n unit) bodies place text → ⊥) }
-    ensures bad_durable { result ≡ Err MapFault.BadMap → (text : List ℕ) → told_text 16 (R.reads rig.old 16) ≡ Some text
-        → HaveInUse (R.images rig.new (R.clock rig.new)) 16 text }
-    ensures no_pool { result ≡ Err MapFault.NoPool → (text : List ℕ) → told_text 16 (R.reads rig.old 16) ≡ Some text → IsNoPool text }
-    ensures no_memory { result ≡ Err MapFault.NoMemory → (text : List ℕ) → told_text 16 (R.reads rig.old 16) ≡ Some text → 24 ≤ length text }
-    ensures plain { IfErr result (λ fault. (fault ≡ MapFault.Worn) → ⊥) }
+    ensures ok { IfOk result (λ read. IsRead R.reads R.clock R.images rig.old rig.new
+        read.journal read.bodies read.numbers.k read.numbers.n read.numbers.unit) }
+    ensures refused { IsNotRead R.reads R.clock R.images rig.old rig.new result }
     ensures only_if_fault { HasMapCause (R.faults rig.old 16) (R.faults rig.new 16) result }
     ensures kept { SyncsAndReadsArea R.is_here R.reads R.said R.clock R.images R.faults R.syncs R.bytes_written R.bytes_read
         16 0 2 (result ≡ Err MapFault.Failed) rig.old rig.new }

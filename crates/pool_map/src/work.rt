@@ -2,13 +2,11 @@
 ghost use Rattle.std.specs.Prelude.{◌≡◌, ◌≤◌, ◌<◌, ◌⊎◌, ◌↔◌, ◌+◌, ◌^◌, ◌++◌, ◌∷◌, [], ℕ, List, true, false, IfOk, IfErr, IsTrue, OnOk, OnErr, Err, if◌then◌else◌};
 ghost use Rattle.ec_model.specs.Codes.{LiesBelow};
 ghost use Rattle.ec_words.specs.Intervals.{JoinedLieBelow};
-ghost use Rattle.rig_disk.specs.During.{During};
-ghost use Rattle.rig_disk.specs.Frame.{Spends, KeepsOthers};
-ghost use Rattle.slot_journal.specs.Journal.{IsSettledWhereTold, InSlot, is_spent, room_of};
+ghost use Rattle.slot_journal.specs.Journal.{room_of};
 ghost use Rattle.slot_journal.specs.Limits.{commit_syncs};
-ghost use Rattle.pool_map.specs.Faults.{HasMapCause};
 ghost use Rattle.map_model.specs.States.{fits, kept, last_epoch, epoch_limit};
-ghost use Rattle.pool_map.specs.Pool.{journal_of, map_of, has_begun, HoldsMap, map_after, Steps, IsWorn, IsUntouched};
+ghost use Rattle.pool_map.specs.Calls.{IsReady, HasStepped, WorksOnMap};
+ghost use Rattle.pool_map.specs.Pool.{journal_of, map_of, has_begun, IsWorn};
 ghost use Rattle.map_model.specs.Sound.{IsSound};
 ghost use Rattle.map_model.specs.Steps as steps;
 ghost use Rattle.ec_words.specs.Intervals.{Interval as Meant};
@@ -48,33 +46,17 @@ impl PoolMap {
 
     /// Begins an interval with these slots up, and answers its epoch.
     pub fn begin<R: Rig>(&mut self, rig: &mut R, up: Mask) -> Result<u32, MapFault>
-        requires here { R.is_here rig.old 16 }
-        requires unspent { is_spent (journal_of self.old) ≡ false }
-        requires settled { IsSettledWhereTold (R.reads rig.old) (R.images rig.old (R.clock rig.old)) (journal_of self.old) }
+        requires ready { IsReady (R.is_here rig.old) (R.reads rig.old) (R.images rig.old (R.clock rig.old)) self.old }
         requires below { up.0 < 2 ^ (map_of self.old).n }
 
         ensures epoch { IfOk result (λ epoch. epoch ≡ last_epoch (map_of self.old).state.intervals + 1) }
-        ensures step { OnOk result (map_of self.new ≡ map_after (map_of self.old)
-            (steps.Begin (last_epoch (map_of self.old).state.intervals + 1) up.0)) }
         ensures began { OnOk result (has_begun self.new ≡ true) }
         ensures worn { (result ≡ Err MapFault.Worn) ↔ IsWorn self.old }
         ensures faults { IfErr result (λ fault. (fault ≡ MapFault.Failed) ⊎ ((fault ≡ MapFault.Worn) ⊎ (fault ≡ MapFault.NoMemory))) }
-        ensures ok { OnOk result ((text : List ℕ)
-            → HoldsMap (R.reads rig.old) (R.images rig.old (R.clock rig.old)) (journal_of self.old) (map_of self.old) text
-            → (after : List ℕ) × HoldsMap (R.reads rig.new) (R.images rig.new (R.clock rig.new)) (journal_of self.new)
-            (map_of self.new) after) }
-        ensures settled { OnOk result
-            (IsSettledWhereTold (R.reads rig.new) (R.images rig.new (R.clock rig.new)) (journal_of self.new)) }
-        ensures unspent { OnOk result (is_spent (journal_of self.new) ≡ false) }
-        ensures unchanged { OnErr result (map_of self.new ≡ map_of self.old) }
-        ensures refused { IfErr result (λ fault. (fault ≡ MapFault.Failed) ⊎ IsUntouched rig.old rig.new self.old self.new) }
-        ensures only_if_fault { HasMapCause (R.faults rig.old 16) (R.faults rig.new 16) result }
-        ensures any_moment { During R.clock R.images rig.old rig.new (InSlot (R.images rig.old (R.clock rig.old)) 16
-            (Steps (R.reads rig.old) (R.images rig.old (R.clock rig.old)) (journal_of self.old) (map_of self.old)
-            (steps.Begin (last_epoch (map_of self.old).state.intervals + 1) up.0))) }
-        ensures counts { Spends R.syncs R.bytes_written R.bytes_read 16 commit_syncs 13 0 rig.old rig.new }
-        ensures kept { KeepsOthers R.is_here R.reads R.said R.faults R.syncs R.bytes_written R.bytes_read
-            16 0 rig.old rig.new }
+        ensures stepped { HasStepped R.reads R.clock R.images R.faults
+            (steps.Begin (last_epoch (map_of self.old).state.intervals + 1) up.0) rig.old rig.new self.old self.new result }
+        ensures kept { WorksOnMap R.is_here R.reads R.said R.faults R.syncs R.bytes_written R.bytes_read
+            commit_syncs 13 0 rig.old rig.new }
     {
         let last = last_epoch(self.state.intervals.as_slice());
         if is_worn(last, self.journal.room()) {
@@ -98,75 +80,44 @@ impl PoolMap {
         }
     }
 
-    /// Records that the last interval, which this value began, is alive.
+    /// Records that the last interval is alive. This value began it, and it was not alive before.
     pub fn alive<R: Rig>(
         &mut self,
         rig: &mut R,
         joined: Mask,
         base: Version,
     ) -> Result<(), MapFault>
-        requires here { R.is_here rig.old 16 }
-        requires unspent { is_spent (journal_of self.old) ≡ false }
-        requires settled { IsSettledWhereTold (R.reads rig.old) (R.images rig.old (R.clock rig.old)) (journal_of self.old) }
+        requires ready { IsReady (R.is_here rig.old) (R.reads rig.old) (R.images rig.old (R.clock rig.old)) self.old }
         requires began { has_begun self.old ≡ true }
         requires fits { fits (map_of self.old).n (map_of self.old).state
             (steps.Alive (last_epoch (map_of self.old).state.intervals) joined.0 base) ≡ true }
 
-        ensures ok { OnOk result ((text : List ℕ)
-            → HoldsMap (R.reads rig.old) (R.images rig.old (R.clock rig.old)) (journal_of self.old) (map_of self.old) text
-            → (after : List ℕ) × HoldsMap (R.reads rig.new) (R.images rig.new (R.clock rig.new)) (journal_of self.new)
-            (map_of self.new) after) }
-        ensures step { OnOk result (map_of self.new
-            ≡ map_after (map_of self.old) (steps.Alive (last_epoch (map_of self.old).state.intervals) joined.0 base)) }
-        ensures settled { OnOk result
-            (IsSettledWhereTold (R.reads rig.new) (R.images rig.new (R.clock rig.new)) (journal_of self.new)) }
-        ensures unspent { OnOk result (is_spent (journal_of self.new) ≡ false) }
-        ensures unchanged { OnErr result (map_of self.new ≡ map_of self.old) }
+        ensures began { has_begun self.new ≡ has_begun self.old }
         ensures faults { IfErr result (λ fault. fault ≡ MapFault.Failed) }
-        ensures only_if_fault { HasMapCause (R.faults rig.old 16) (R.faults rig.new 16) result }
-        ensures any_moment { During R.clock R.images rig.old rig.new (InSlot (R.images rig.old (R.clock rig.old)) 16
-            (Steps (R.reads rig.old) (R.images rig.old (R.clock rig.old)) (journal_of self.old) (map_of self.old)
-            (steps.Alive (last_epoch (map_of self.old).state.intervals) joined.0 base))) }
-        ensures counts { Spends R.syncs R.bytes_written R.bytes_read 16 commit_syncs 25 0 rig.old rig.new }
-        ensures kept { KeepsOthers R.is_here R.reads R.said R.faults R.syncs R.bytes_written R.bytes_read
-            16 0 rig.old rig.new }
+        ensures stepped { HasStepped R.reads R.clock R.images R.faults
+            (steps.Alive (last_epoch (map_of self.old).state.intervals) joined.0 base) rig.old rig.new self.old self.new result }
+        ensures kept { WorksOnMap R.is_here R.reads R.said R.faults R.syncs R.bytes_written R.bytes_read
+            commit_syncs 25 0 rig.old rig.new }
     {
         let epoch = last_epoch(self.state.intervals.as_slice());
         self.journal
             .commit(rig, &alive_bytes(epoch, joined, &base))?;
         self.state.intervals.set_last_alive(joined, base);
-        self.began = false;
         Ok(())
     }
 
     /// Marks a slot as down, or takes the mark away.
     pub fn mark<R: Rig>(&mut self, rig: &mut R, slot: u8, down: bool) -> Result<(), MapFault>
-        requires here { R.is_here rig.old 16 }
-        requires unspent { is_spent (journal_of self.old) ≡ false }
-        requires settled { IsSettledWhereTold (R.reads rig.old) (R.images rig.old (R.clock rig.old)) (journal_of self.old) }
+        requires ready { IsReady (R.is_here rig.old) (R.reads rig.old) (R.images rig.old (R.clock rig.old)) self.old }
         requires slot { slot < (map_of self.old).n }
 
-        ensures step { OnOk result (map_of self.new ≡ map_after (map_of self.old)
-            (steps.Mark slot (if down then 1 else 0))) }
         ensures began { has_begun self.new ≡ has_begun self.old }
         ensures worn { (result ≡ Err MapFault.Worn) ↔ (room_of (journal_of self.old) < 2 ^ 26) }
         ensures faults { IfErr result (λ fault. (fault ≡ MapFault.Failed) ⊎ (fault ≡ MapFault.Worn)) }
-        ensures ok { OnOk result ((text : List ℕ)
-            → HoldsMap (R.reads rig.old) (R.images rig.old (R.clock rig.old)) (journal_of self.old) (map_of self.old) text
-            → (after : List ℕ) × HoldsMap (R.reads rig.new) (R.images rig.new (R.clock rig.new)) (journal_of self.new)
-            (map_of self.new) after) }
-        ensures settled { OnOk result
-            (IsSettledWhereTold (R.reads rig.new) (R.images rig.new (R.clock rig.new)) (journal_of self.new)) }
-        ensures unspent { OnOk result (is_spent (journal_of self.new) ≡ false) }
-        ensures unchanged { OnErr result (map_of self.new ≡ map_of self.old) }
-        ensures refused { IfErr result (λ fault. (fault ≡ MapFault.Failed) ⊎ IsUntouched rig.old rig.new self.old self.new) }
-        ensures only_if_fault { HasMapCause (R.faults rig.old 16) (R.faults rig.new 16) result }
-        ensures any_moment { During R.clock R.images rig.old rig.new (InSlot (R.images rig.old (R.clock rig.old)) 16
-            (Steps (R.reads rig.old) (R.images rig.old (R.clock rig.old)) (journal_of self.old) (map_of self.old)
-            (steps.Mark slot (if down then 1 else 0)))) }
-        ensures counts { Spends R.syncs R.bytes_written R.bytes_read 16 commit_syncs 9 0 rig.old rig.new }
-        ensures kept { KeepsOthers R.is_here R.reads R.said R.faults R.syncs R.bytes_written R.bytes_read
-            16 0 rig.old rig.new }
+        ensures stepped { HasStepped R.reads R.clock R.images R.faults
+            (steps.Mark slot (if down then 1 else 0)) rig.old rig.new self.old self.new result }
+        ensures kept { WorksOnMap R.is_here R.reads R.said R.faults R.syncs R.bytes_written R.bytes_read
+            commit_syncs 9 0 rig.old rig.new }
     {
         if self.journal.room() < MARK_ROOM {
             return Err(MapFault::Worn);

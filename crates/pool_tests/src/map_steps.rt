@@ -1,6 +1,6 @@
 //! Steps on a map, and crashes in the midst of them.
 ghost use Rattle.std.specs.Prelude.{OnOk};
-ghost use Rattle.pool_tests.specs.Ready.{IsReady};
+ghost use Rattle.pool_tests.specs.Ready.{HasThree};
 
 use crate::maps::{Seen, begun, gone_alive, loaded, made, marked, seen_of};
 use pool_map::{MAP_SLOT, MapFault, PoolMap};
@@ -21,7 +21,7 @@ enum Work {
 
 /// Marks slot 2 as down, and takes the mark away.
 fn unmarked<R: Rig>(rig: &mut R, map: &mut PoolMap) -> Result<(), MapFault>
-    requires { IsReady (R.is_here rig.old) (R.reads rig.old) (R.images rig.old (R.clock rig.old)) map.old }
+    requires { HasThree (R.is_here rig.old) (R.reads rig.old) (R.images rig.old (R.clock rig.old)) map.old }
 {
     marked(rig, map, true)?;
     marked(rig, map, false)
@@ -29,7 +29,7 @@ fn unmarked<R: Rig>(rig: &mut R, map: &mut PoolMap) -> Result<(), MapFault>
 
 /// Does some work on a map.
 fn worked<R: Rig>(rig: &mut R, map: &mut PoolMap, work: Work) -> Result<(), MapFault>
-    requires { IsReady (R.is_here rig.old) (R.reads rig.old) (R.images rig.old (R.clock rig.old)) map.old }
+    requires { HasThree (R.is_here rig.old) (R.reads rig.old) (R.images rig.old (R.clock rig.old)) map.old }
 {
     match work {
         Work::Nothing | Work::MarkAndMake => Ok(()),

@@ -1,7 +1,7 @@
 //! What the tests of a pool's map share.
-ghost use Rattle.std.specs.Prelude.{◌≡◌, ◌<◌, ℕ, length, slice_index_or, IfOk, OnOk};
-ghost use Rattle.ec_code.specs.Profiles.{name_of};
-ghost use Rattle.pool_tests.specs.Ready.{IsReady};
+ghost use Rattle.std.specs.Prelude.{IfOk, OnOk};
+ghost use Rattle.pool_map.specs.Boxes.{HaveEachPlugin};
+ghost use Rattle.pool_tests.specs.Ready.{HasThree};
 
 use ec_code::Code;
 use ec_words::{Mask, Version};
@@ -37,8 +37,8 @@ fn made_with<R: Rig>(
     codes: &mut [Box<dyn Code>],
 ) -> Result<PoolMap, MapFault>
     requires here { R.is_here rig.old 16 }
-    requires boxes { (q : _) → (i : ℕ) × (i < length codes.old) × ((d : _) → plugin_name (slice_index_or codes.old i d) ≡ name_of q) }
-    ensures { IfOk result (λ map. IsReady (R.is_here rig.new) (R.reads rig.new) (R.images rig.new (R.clock rig.new)) map) }
+    requires boxes { HaveEachPlugin (λ box. plugin_name box) codes.old }
+    ensures { IfOk result (λ map. HasThree (R.is_here rig.new) (R.reads rig.new) (R.images rig.new (R.clock rig.new)) map) }
 {
     read_profiles_are_writable();
     match open_profile(alloc, b"k=2,m=1,stripe_unit=32", codes) {
@@ -58,7 +58,7 @@ fn made_with<R: Rig>(
 pub(crate) fn made<R: Rig>(alloc: Global, rig: &mut R) -> Result<Result<PoolMap, MapFault>, Fail>
     requires { R.is_here rig.old 16 }
     ensures { IfOk result (λ made. IfOk made (λ map.
-        IsReady (R.is_here rig.new) (R.reads rig.new) (R.images rig.new (R.clock rig.new)) map)) }
+        HasThree (R.is_here rig.new) (R.reads rig.new) (R.images rig.new (R.clock rig.new)) map)) }
 {
     let mut codes = boxes(alloc)?;
     if !has_each_plugin(&codes) {
@@ -95,8 +95,8 @@ pub(crate) fn loaded<R: Rig>(alloc: Global, rig: &mut R) -> Result<Result<Seen, 
 
 /// Begins an interval with slots 0 and 1 up.
 pub(crate) fn begun<R: Rig>(rig: &mut R, map: &mut PoolMap) -> Result<(), MapFault>
-    requires { IsReady (R.is_here rig.old) (R.reads rig.old) (R.images rig.old (R.clock rig.old)) map.old }
-    ensures { OnOk result (IsReady (R.is_here rig.new) (R.reads rig.new) (R.images rig.new (R.clock rig.new)) map.new) }
+    requires { HasThree (R.is_here rig.old) (R.reads rig.old) (R.images rig.old (R.clock rig.old)) map.old }
+    ensures { OnOk result (HasThree (R.is_here rig.new) (R.reads rig.new) (R.images rig.new (R.clock rig.new)) map.new) }
 {
     map.begin(rig, Mask(3))?;
     Ok(())
@@ -104,7 +104,7 @@ pub(crate) fn begun<R: Rig>(rig: &mut R, map: &mut PoolMap) -> Result<(), MapFau
 
 /// The same, and it goes alive with slot 0.
 pub(crate) fn gone_alive<R: Rig>(rig: &mut R, map: &mut PoolMap) -> Result<(), MapFault>
-    requires { IsReady (R.is_here rig.old) (R.reads rig.old) (R.images rig.old (R.clock rig.old)) map.old }
+    requires { HasThree (R.is_here rig.old) (R.reads rig.old) (R.images rig.old (R.clock rig.old)) map.old }
 {
     map.begin(rig, Mask(3))?;
     map.alive(rig, Mask(1), Version { epoch: 1, seq: 5 })
@@ -112,8 +112,8 @@ pub(crate) fn gone_alive<R: Rig>(rig: &mut R, map: &mut PoolMap) -> Result<(), M
 
 /// Marks slot 2 as down, or takes the mark away.
 pub(crate) fn marked<R: Rig>(rig: &mut R, map: &mut PoolMap, down: bool) -> Result<(), MapFault>
-    requires { IsReady (R.is_here rig.old) (R.reads rig.old) (R.images rig.old (R.clock rig.old)) map.old }
-    ensures { OnOk result (IsReady (R.is_here rig.new) (R.reads rig.new) (R.images rig.new (R.clock rig.new)) map.new) }
+    requires { HasThree (R.is_here rig.old) (R.reads rig.old) (R.images rig.old (R.clock rig.old)) map.old }
+    ensures { OnOk result (HasThree (R.is_here rig.new) (R.reads rig.new) (R.images rig.new (R.clock rig.new)) map.new) }
 {
     map.mark(rig, 2, down)?;
     Ok(())

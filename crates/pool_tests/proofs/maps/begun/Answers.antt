@@ -4,8 +4,10 @@ use Rattle.pool_tests.proofs.maps.begun.Goals as goal
 
 pub returns : goal.returns
 returns g c = record {
-  is_here = (c.begin.ensures.kept.here 16).0 c.requires.is_here;
-  settled = c.in_ok-begin.ensures.settled;
-  unspent = c.in_ok-begin.ensures.unspent;
-  three = ap (λ (m : PoolImage). m.n) c.in_ok-begin.ensures.step ∙ c.requires.three;
+  ready = record {
+    here = (c.begin.ensures.kept.others.here 16).0 c.requires.ready.here;
+    unspent = c.in_ok-begin.ensures.stepped.unspent;
+    settled = c.in_ok-begin.ensures.stepped.settled;
+  };
+  three = ap (λ (m : PoolImage). m.n) c.in_ok-begin.ensures.stepped.step ∙ c.requires.three;
 }

@@ -8,7 +8,7 @@ use Rattle.pool_map.specs.Pool.{new_map}
 use Rattle.map_model.specs.Sound.{IsSound}
 use Rattle.pool_map.proofs.SoundLemmas.{map_sound}
 use Rattle.slot_journal.specs.Writing.{first_text}
-use Rattle.pool_map.proofs.MadeLemmas.{made_held}
+use Rattle.pool_map.proofs.MadeLemmas.{map_with, made_held}
 use Rattle.pool_map.proofs.WorkLemmas.{make_moments}
 use Rattle.pool_map.proofs.map.PoolMap.make.Goals as goal
 
@@ -37,14 +37,24 @@ invariant_of-result-2-clause-sound g c =
     subst (λ (ivs : List Interval). IsSound n (with_intervals (new_state map_format) ivs)) (sym (c.in_ok-intervals.ensures ∙ ap alone c.all_of.ensures))
     (map_sound c.args.shape.k c.in_ok-first.first.profile.stripe_unit map_format (c.in_ok-first.first.body ∷ []) (new_map c.in_ok-first.first.profile n) c.in_ok-first.ensures.ok)
 
-pub returns-clause-ok : goal.returns-clause-ok
-returns-clause-ok g c = λ text told.
+pub returns-clause-made : goal.returns-clause-made
+returns-clause-made g c =
     let first = c.in_ok-first.first in
     let word : IsWord first.profile.stripe_unit = search rules in
-    let alone : ℕ → List Interval = λ all. record { epoch = 1; up = all; alive = Some (all, zero_version) } ∷ [] in (
-      first_text c.map_head-head.result c.as_slice.result.now,
-      made_held (g.R.Rig.reads c.make.new.rig) (g.R.Rig.images c.make.new.rig (g.R.Rig.clock c.make.new.rig)) c.in_ok-journal.journal first.profile c.args.shape.k c.args.shape.n first.profile.stripe_unit
-          c.map_head-head.result c.as_slice.result.now (first_text c.map_head-head.result c.as_slice.result.now) c.in_ok-intervals.intervals (c.in_ok-intervals.ensures ∙ ap alone c.all_of.ensures) word c.map_head-head.ensures
-          (subst (λ b. IsMapOf c.args.shape.k first.profile.stripe_unit map_format (b ∷ []) (new_map first.profile c.args.shape.n)) (sym c.as_slice.ensures.value) c.in_ok-first.ensures.ok)
-          (c.in_ok-journal.ensures.ok text told),
-    )
+    let alone : ℕ → List Interval = λ all. record { epoch = 1; up = all; alive = Some (all, zero_version) } ∷ [] in record {
+      held = λ text told. (
+        first_text c.map_head-head.result c.as_slice.result.now,
+        made_held (g.R.Rig.reads c.make.new.rig) (g.R.Rig.images c.make.new.rig (g.R.Rig.clock c.make.new.rig)) c.in_ok-journal.journal first.profile c.args.shape.k c.args.shape.n first.profile.stripe_unit
+            c.map_head-head.result c.as_slice.result.now (first_text c.map_head-head.result c.as_slice.result.now) c.in_ok-intervals.intervals (c.in_ok-intervals.ensures ∙ ap alone c.all_of.ensures) word c.map_head-head.ensures
+            (subst (λ b. IsMapOf c.args.shape.k first.profile.stripe_unit map_format (b ∷ []) (new_map first.profile c.args.shape.n)) (sym c.as_slice.ensures.value) c.in_ok-first.ensures.ok)
+            (c.in_ok-journal.ensures.ok text told),
+      );
+      is_new = record {
+        own = first.profile;
+        read = c.in_ok-first.ensures.new;
+        is = ap (λ (ivs : List Interval). map_with first.profile c.args.shape.n ivs) (c.in_ok-intervals.ensures ∙ ap alone c.all_of.ensures);
+      };
+      settled = search rules;
+      unspent = search rules;
+      unbegun = search rules;
+    }
