@@ -1,8 +1,8 @@
 //! The commands of the tool, after the words were read.
 ghost use Rattle.std.specs.Prelude.{◌≡◌, ◌<◌, ◌≤◌, ◌↔◌, ◌⊎◌, ℕ, IfOk, IfErr, IsTrue, length, slice_index_or};
 ghost use Rattle.ec_code.specs.Bounds.{IsUnit};
-ghost use Rattle.ec_code.specs.Profiles.{name_of};
 ghost use Rattle.ec_code.specs.Refusals.{IsCodeOf};
+ghost use Rattle.plugin_reg.specs.Boxes.{HaveEachPlugin, KeepNames};
 ghost use Rattle.rig_disk.specs.Faults.{Rose};
 ghost use Rattle.ec_tool.specs.Jobs.{GivesJob};
 ghost use Rattle.ec_tool.specs.Outcomes.{Shows, Codes, EncodeEnds, DecodeEnds};
@@ -29,10 +29,9 @@ pub fn validate(
     parameters: &[String],
     codes: &mut [Box<dyn Code>],
 ) -> Result<Bytes, Stop>
-    requires { (q : _) → (i : ℕ) × (i < length codes.old) × ((d : _) → plugin_name (slice_index_or codes.old i d) ≡ name_of q) }
+    requires { HaveEachPlugin (λ box. plugin_name box) codes.old }
     ensures value { Shows profile.now (λ code. parameters_text code (texts_of parameters.now)) (status_after result) (shown_after result) }
-    ensures boxes { length codes.new ≡ length codes.old }
-    ensures kept { (j : ℕ) (d : _) → plugin_name (slice_index_or codes.new j d) ≡ plugin_name (slice_index_or codes.old j d) }
+    ensures boxes { KeepNames (λ box. plugin_name box) codes.old codes.new }
 {
     let opened = open_profile(alloc, profile.as_bytes(), codes)?;
     let text = parameters_text(alloc, codes[opened.index].as_ref(), parameters)?;
@@ -46,11 +45,10 @@ pub fn size(
     size: u64,
     codes: &mut [Box<dyn Code>],
 ) -> Result<Bytes, Stop>
-    requires boxes { (q : _) → (i : ℕ) × (i < length codes.old) × ((d : _) → plugin_name (slice_index_or codes.old i d) ≡ name_of q) }
+    requires boxes { HaveEachPlugin (λ box. plugin_name box) codes.old }
     requires within { size ≤ max_size }
     ensures value { Shows profile.now (λ code. size_text code size) (status_after result) (shown_after result) }
-    ensures boxes { length codes.new ≡ length codes.old }
-    ensures kept { (j : ℕ) (d : _) → plugin_name (slice_index_or codes.new j d) ≡ plugin_name (slice_index_or codes.old j d) }
+    ensures boxes { KeepNames (λ box. plugin_name box) codes.old codes.new }
 {
     let opened = open_profile(alloc, profile.as_bytes(), codes)?;
     let text = size_text(alloc, codes[opened.index].as_ref(), size)?;
@@ -59,13 +57,12 @@ pub fn size(
 
 // Opens the profile of a job, and looks at its unit.
 fn open_job(alloc: Global, job: &Coding, codes: &mut [Box<dyn Code>]) -> Result<Opened, Stop>
-    requires { (q : _) → (i : ℕ) × (i < length codes.old) × ((d : _) → plugin_name (slice_index_or codes.old i d) ≡ name_of q) }
+    requires { HaveEachPlugin (λ box. plugin_name box) codes.old }
     ensures gives { IfOk result (λ opened. GivesJob (job_of job.now) opened.profile) }
     ensures below { IfOk result (λ opened. opened.index < length codes.new) }
     ensures made { IfOk result (λ opened. (d : _) → IsCodeOf opened.profile (meaning (slice_index_or codes.new opened.index d))) }
     ensures stopped { IfErr result (StopsByJob (job_of job.now)) }
-    ensures boxes { length codes.new ≡ length codes.old }
-    ensures kept { (j : ℕ) (d : _) → plugin_name (slice_index_or codes.new j d) ≡ plugin_name (slice_index_or codes.old j d) }
+    ensures boxes { KeepNames (λ box. plugin_name box) codes.old codes.new }
 {
     let opened = open_profile(alloc, job.profile.as_bytes(), codes)?;
     if !is_unit(job.unit) {
@@ -88,11 +85,10 @@ pub fn encode<F: Files>(
     codes: &mut [Box<dyn Code>],
     files: &mut F,
 ) -> Result<(), Stop>
-    requires { (q : _) → (i : ℕ) × (i < length codes.old) × ((d : _) → plugin_name (slice_index_or codes.old i d) ≡ name_of q) }
+    requires { HaveEachPlugin (λ box. plugin_name box) codes.old }
     ensures value { Codes EncodeEnds (job_of job.now) (status_after result) (line_after result) (F.files files.old) (F.files files.new) (F.faults files.old) (F.faults files.new) }
     ensures failed { status_after result ≡ 5 → Rose (F.faults files.old) (F.faults files.new) }
-    ensures boxes { length codes.new ≡ length codes.old }
-    ensures kept { (j : ℕ) (d : _) → plugin_name (slice_index_or codes.new j d) ≡ plugin_name (slice_index_or codes.old j d) }
+    ensures boxes { KeepNames (λ box. plugin_name box) codes.old codes.new }
 {
     let opened = open_job(alloc, job, codes)?;
     encode_file(alloc, job, codes[opened.index].as_ref(), files)
@@ -105,12 +101,11 @@ pub fn decode<F: Files>(
     codes: &mut [Box<dyn Code>],
     files: &mut F,
 ) -> Result<(), Stop>
-    requires boxes { (q : _) → (i : ℕ) × (i < length codes.old) × ((d : _) → plugin_name (slice_index_or codes.old i d) ≡ name_of q) }
+    requires boxes { HaveEachPlugin (λ box. plugin_name box) codes.old }
     requires some { 1 ≤ length job.now.wanted.items }
     ensures value { Codes DecodeEnds (job_of job.now) (status_after result) (line_after result) (F.files files.old) (F.files files.new) (F.faults files.old) (F.faults files.new) }
     ensures failed { status_after result ≡ 5 → Rose (F.faults files.old) (F.faults files.new) }
-    ensures boxes { length codes.new ≡ length codes.old }
-    ensures kept { (j : ℕ) (d : _) → plugin_name (slice_index_or codes.new j d) ≡ plugin_name (slice_index_or codes.old j d) }
+    ensures boxes { KeepNames (λ box. plugin_name box) codes.old codes.new }
 {
     let opened = open_job(alloc, job, codes)?;
     decode_file(alloc, job, codes[opened.index].as_ref(), files)

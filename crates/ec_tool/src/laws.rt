@@ -1,5 +1,6 @@
 //! Laws about files, for every caller. Each is the contract of a function that does nothing.
 ghost use Rattle.std.specs.Prelude.{◌≡◌, ◌<◌, ℕ, length, slice_index_or};
+ghost use Rattle.plugin_reg.specs.Boxes.{HaveBox};
 ghost use Rattle.ec_tool.specs.Laws.{AnswersAreExact, WrittenFilesAreFound, EncodedFilesComeBack, EncodedRunsComeBack, WordsAskForOneThing, ProfilesAreOne, CodesAreOne, EncodedFilesAreOne, DecodedFilesAreOne, OutcomesAreOne};
 
 use ec_code::Code;
@@ -24,7 +25,7 @@ pub fn encoded_files_come_back()
 
 /// A run of `decode` over the files that a run of `encode` left gives the file back, by boxes of these names.
 pub fn encoded_runs_come_back(codes: &[Box<dyn Code>])
-    ensures { EncodedRunsComeBack (λ name. (i : ℕ) × (i < length codes.now) × ((d : _) → plugin_name (slice_index_or codes.now i d) ≡ name)) }
+    ensures { EncodedRunsComeBack (HaveBox (λ box. plugin_name box) codes.now) }
 {
     layers_have_one_code()
 }
@@ -61,7 +62,7 @@ pub fn decoded_files_are_one()
 /// Two runs of the same words, by boxes of these names and over the same told files, end alike, except for failures and want of
 /// memory.
 pub fn outcomes_are_one(codes: &[Box<dyn Code>])
-    ensures { OutcomesAreOne (λ name. (i : ℕ) × (i < length codes.now) × ((d : _) → plugin_name (slice_index_or codes.now i d) ≡ name)) }
+    ensures { OutcomesAreOne (HaveBox (λ box. plugin_name box) codes.now) }
 {
     layers_have_one_code();
     least_plan_is_one()

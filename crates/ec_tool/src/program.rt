@@ -1,8 +1,8 @@
 //! The one call of the program `ceph_ec_tool`: everything that it does, except for its real files and output.
 ghost use Rattle.std.specs.Prelude.{◌≡◌, ◌≢◌, ◌<◌, ◌⊎◌, ◌∷◌, [], ℕ, length, slice_index_or};
 ghost use Rattle.std.specs.Io.KnownBytes.{Appends};
+ghost use Rattle.plugin_reg.specs.Boxes.{HaveBox, HaveEachPlugin, KeepNames};
 ghost use Rattle.rig_disk.specs.Faults.{Rose};
-ghost use Rattle.ec_code.specs.Profiles.{name_of};
 ghost use Rattle.ec_tool.specs.Headline.{IsDone};
 ghost use Rattle.ec_tool.specs.Requests.{Asks};
 ghost use Rattle.ec_tool.specs.Texts.{OneOf, EndsWith, exists_line, unknown_plugin_line};
@@ -31,12 +31,12 @@ pub fn tool<F: Files, R: Rig>(
     files: &mut F,
     rig: &mut R,
 ) -> ToolStatus
-    requires { (q : _) → (i : ℕ) × (i < length codes.old.items) × ((d : _) → plugin_name (slice_index_or codes.old.items i d) ≡ name_of q) }
+    requires { HaveEachPlugin (λ box. plugin_name box) codes.old.items }
     ensures statuses { OneOf result.0 (0 ∷ 1 ∷ 2 ∷ 3 ∷ 4 ∷ 5 ∷ 6 ∷ 7 ∷ 8 ∷ 9 ∷ 13 ∷ []) }
 
     // The words ask for something, and the run does it; or memory ran out before they were read.
     ensures headline { ((request : _) × Asks words.now request
-        × IsDone (λ name. (i : ℕ) × (i < length codes.old.items) × ((d : _) → plugin_name (slice_index_or codes.old.items i d) ≡ name)) request
+        × IsDone (HaveBox (λ box. plugin_name box) codes.old.items) request
         (record {
           status = result.0;
           said_before = R.said rig.old;
@@ -56,8 +56,7 @@ pub fn tool<F: Files, R: Rig>(
 
     // No slot's count ever changes. The boxes keep their names.
     ensures slots { (slot : ℕ) → slot ≢ VOICE → R.faults rig.new slot ≡ R.faults rig.old slot }
-    ensures boxes { length codes.new.items ≡ length codes.old.items }
-    ensures kept { (j : ℕ) (d : _) → plugin_name (slice_index_or codes.new.items j d) ≡ plugin_name (slice_index_or codes.old.items j d) }
+    ensures boxes { KeepNames (λ box. plugin_name box) codes.old.items codes.new.items }
 {
     match requested(alloc, words) {
         Ok(request) => serve(alloc, &request, codes, files, rig),
@@ -74,9 +73,9 @@ fn serve<F: Files, R: Rig>(
     rig: &mut R,
 ) -> ToolStatus
     requires asked { (words : _) × Asks words request.now }
-    requires boxes { (q : _) → (i : ℕ) × (i < length codes.old) × ((d : _) → plugin_name (slice_index_or codes.old i d) ≡ name_of q) }
+    requires boxes { HaveEachPlugin (λ box. plugin_name box) codes.old }
     ensures statuses { OneOf result.0 (0 ∷ 1 ∷ 2 ∷ 3 ∷ 4 ∷ 5 ∷ 6 ∷ 7 ∷ 8 ∷ 9 ∷ 13 ∷ []) }
-    ensures done { IsDone (λ name. (i : ℕ) × (i < length codes.old) × ((d : _) → plugin_name (slice_index_or codes.old i d) ≡ name)) request.now
+    ensures done { IsDone (HaveBox (λ box. plugin_name box) codes.old) request.now
         (record {
           status = result.0;
           said_before = R.said rig.old;
@@ -91,8 +90,7 @@ fn serve<F: Files, R: Rig>(
     ensures silent { result.0 ≡ 13 → Appends (R.said rig.old) (R.said rig.new) [] }
     ensures quiet_voice { result.0 ≢ 9 → R.faults rig.new VOICE ≡ R.faults rig.old VOICE }
     ensures slots { (slot : ℕ) → slot ≢ VOICE → R.faults rig.new slot ≡ R.faults rig.old slot }
-    ensures boxes { length codes.new ≡ length codes.old }
-    ensures kept { (j : ℕ) (d : _) → plugin_name (slice_index_or codes.new j d) ≡ plugin_name (slice_index_or codes.old j d) }
+    ensures boxes { KeepNames (λ box. plugin_name box) codes.old codes.new }
 {
     match request {
         Request::Wrong => say(rig, USAGE, 2),
@@ -108,12 +106,12 @@ fn serve<F: Files, R: Rig>(
 
 // Says whether a plugin is there.
 fn test_plugin<R: Rig>(plugin: &str, codes: &[Box<dyn Code>], rig: &mut R) -> ToolStatus
-    ensures there { ((i : ℕ) × (i < length codes.now) × ((d : _) → plugin_name (slice_index_or codes.now i d) ≡ plugin.now))
+    ensures there { HaveBox (λ box. plugin_name box) codes.now plugin.now
         → EndsWith 0 exists_line (R.said rig.old) (R.said rig.new) result.0 }
-    ensures unknown { (((i : ℕ) × (i < length codes.now) × ((d : _) → plugin_name (slice_index_or codes.now i d) ≡ plugin.now)) → ⊥)
+    ensures unknown { (HaveBox (λ box. plugin_name box) codes.now plugin.now → ⊥)
         → EndsWith 1 unknown_plugin_line (R.said rig.old) (R.said rig.new) result.0 }
-    ensures known { ((i : ℕ) × (i < length codes.now) × ((d : _) → plugin_name (slice_index_or codes.now i d) ≡ plugin.now))
-        ⊎ (((i : ℕ) × (i < length codes.now) × ((d : _) → plugin_name (slice_index_or codes.now i d) ≡ plugin.now)) → ⊥) }
+    ensures known { HaveBox (λ box. plugin_name box) codes.now plugin.now
+        ⊎ (HaveBox (λ box. plugin_name box) codes.now plugin.now → ⊥) }
     ensures voice { result.0 ≡ 9 → Rose (R.faults rig.old VOICE) (R.faults rig.new VOICE) }
     ensures quiet { result.0 ≢ 9 → R.faults rig.new VOICE ≡ R.faults rig.old VOICE }
     ensures slots { (slot : ℕ) → slot ≢ VOICE → R.faults rig.new slot ≡ R.faults rig.old slot }

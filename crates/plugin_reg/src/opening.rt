@@ -1,9 +1,9 @@
 //! A profile as a text, and the box that becomes its code; the line of a text that is refused.
-ghost use Rattle.std.specs.Prelude.{◌≡◌, ◌≢◌, ◌<◌, ◌++◌, ℕ, IfOk, IsErr, OnOk, Err, length, slice_index_or};
+ghost use Rattle.std.specs.Prelude.{◌≡◌, ◌++◌, IfOk, IsErr, OnOk, Err};
 ghost use Rattle.std.specs.Fmt.{decimal};
 ghost use Rattle.std.specs.Option.{option_map};
-ghost use Rattle.ec_code.specs.Profiles.{name_of};
-ghost use Rattle.ec_code.specs.Refusals.{IsCodeOf, KeepsPromise};
+ghost use Rattle.plugin_reg.specs.Boxes.{HaveEachPlugin, KeepNames, KeepCodes};
+ghost use Rattle.plugin_reg.specs.Picks.{IsPicked};
 ghost use Rattle.plugin_reg.specs.Opening.{GivesProfile, IsRefused, key_field, fault_line};
 
 use crate::picks::pick;
@@ -19,27 +19,19 @@ pub struct Opened {
     pub profile: Profile,
 }
 
-/// Reads a profile, as settings or in JSON, and makes the first box of its plugin its code; the others keep theirs. `codes` has a
-/// box of each plugin.
-/// Refused is a text by the first fault of it or of its profile; no code changes then.
+/// Reads a profile, as settings or in JSON, and makes the first box of its plugin its code. `codes` has a box of each plugin. A
+/// text is refused by the first fault of it or of its profile. No code changes then.
 pub fn open_profile(
     alloc: Global,
     text: &[u8],
     codes: &mut [Box<dyn Code>],
 ) -> Result<Opened, RegFault>
-    requires { (q : _) → (i : ℕ) × (i < length codes.old) × ((d : _) → plugin_name (slice_index_or codes.old i d) ≡ name_of q) }
+    requires { HaveEachPlugin (λ box. plugin_name box) codes.old }
     ensures gives { IfOk result (λ opened. GivesProfile text.now opened.profile) }
-    ensures below { IfOk result (λ opened. opened.index < length codes.new) }
-    ensures named { IfOk result (λ opened. (d : _) → plugin_name (slice_index_or codes.old opened.index d) ≡ name_of opened.profile.plugin) }
-    ensures first { IfOk result (λ opened. (j : ℕ) (d : _) → j < opened.index
-        → plugin_name (slice_index_or codes.old j d) ≢ name_of opened.profile.plugin) }
-    ensures made { IfOk result (λ opened. (d : _) → IsCodeOf opened.profile (meaning (slice_index_or codes.new opened.index d))) }
-    ensures promise { IfOk result (λ opened. (d : _) → KeepsPromise opened.profile.plugin (meaning (slice_index_or codes.new opened.index d))) }
-    ensures others { IfOk result (λ opened. (j : ℕ) (d : _) → j ≢ opened.index → slice_index_or codes.new j d ≡ slice_index_or codes.old j d) }
+    ensures picked { IfOk result (λ opened. IsPicked (λ box. plugin_name box) (λ box. meaning box) opened.profile codes.old codes.new opened.index) }
     ensures refused { (fault : _) → result ≡ Err (RegFault.Profile fault) → IsRefused text.now fault }
-    ensures boxes { length codes.new ≡ length codes.old }
-    ensures kept { (j : ℕ) (d : _) → plugin_name (slice_index_or codes.new j d) ≡ plugin_name (slice_index_or codes.old j d) }
-    ensures unchanged { IsErr result → (j : ℕ) (d : _) → meaning (slice_index_or codes.new j d) ≡ meaning (slice_index_or codes.old j d) }
+    ensures unchanged { IsErr result → KeepCodes (λ box. meaning box) codes.old codes.new }
+    ensures boxes { KeepNames (λ box. plugin_name box) codes.old codes.new }
 {
     let profile = read_any(alloc, text)?;
     match pick(codes, &profile) {

@@ -1,7 +1,7 @@
 //! The one call of the program `ecpool`: all that it does, but for its real input and output.
 ghost use Rattle.std.specs.Prelude.{◌≡◌, ◌∷◌, [], List, ℕ, Some, string_bytes};
+ghost use Rattle.plugin_reg.specs.Boxes.{HaveEachPlugin, KeepNames};
 ghost use Rattle.plugin_reg.specs.Opening.{GivesProfile, IsRefused};
-ghost use Rattle.pool_run.specs.Boxes.{HaveEachPlugin, KeepNames};
 ghost use Rattle.pool_run.specs.Counts.{Counts};
 ghost use Rattle.pool_run.specs.Ends.{AnswersScript, ComesForItsCause, LeavesInput};
 ghost use Rattle.pool_run.specs.Profiles.{AsksToShow, AsksFor, ShowsProfile, SaysFault};

@@ -2,12 +2,9 @@ use Rattle.std.proofs.Common.{subst}
 use Rattle.ec_code.specs.JsonProfiles.{profile_of_bytes}
 use Rattle.ec_code.specs.Refusals.{IsAccepted}
 use Rattle.ec_code.proofs.GivenLemmas.{not_both, same_profile}
-use Rattle.plugin_reg.proofs.CallerLemmas.{element}
 use Rattle.pool_map.proofs.profiles.open_read.Goals as goal
 
 pub returns-clause-bad : goal.returns-clause-bad
 returns-clause-bad g c = λ e p is.
-    let box = c.requires.boxes c.args.profile.plugin in
-    let d = element c.args.codes.now box.0 box.1 in
     let same = same_profile p c.args.profile (profile_of_bytes c.args.lines.now) is.read c.requires.read in
-    not_both c.args.profile c.in-Err.field-0 (subst IsAccepted same is.accepted) (c.in-Err.ensures.refused box.0 d box.1 (box.2 d))
+    not_both c.args.profile c.in-Err.field-0 (subst IsAccepted same is.accepted) (c.in-Err.ensures.refused (c.requires.boxes c.args.profile.plugin))
