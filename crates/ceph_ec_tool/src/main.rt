@@ -3,7 +3,8 @@
 #![tactic(auto)]
 
 use ec_code::Code;
-use ec_tool::{DiskFiles, ToolStatus, tool};
+use ec_files::DiskFiles;
+use ec_tool::{ToolStatus, tool};
 use ec_words::NoMemory;
 use lrc_layers::Lrc;
 use plugin_reg::has_each_plugin;

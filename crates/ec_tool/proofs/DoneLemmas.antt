@@ -4,11 +4,13 @@ use Rattle.std.proofs.lemmas.List.{length-map}
 use Rattle.std.proofs.lemmas.List.Splits.{length-slice_split}
 use Rattle.std.specs.Fmt.{decimal}
 use Rattle.ec_tool.specs.Headline.{Run, Does, IsDone}
-use Rattle.ec_tool.specs.Outcomes.{Codes, EncodeEnds, DecodeEnds}
-use Rattle.ec_tool.specs.Requests.{job_of, Asks}
+use Rattle.ec_tool.specs.Outcomes.{Codes}
+use Rattle.ec_files.specs.Outcomes.{EncodeEnds, DecodeEnds}
+use Rattle.ec_files.specs.Jobs.{job_of}
+use Rattle.ec_tool.specs.Requests.{Asks}
 use Rattle.ec_tool.specs.Texts.{EndsWith, OneOf}
 use Rattle.ec_tool.specs.Words.{Words, AskDecode}
-use Rattle.ec_tool.specs.declared.request.Coding.{Coding}
+use Rattle.ec_files.specs.declared.job.Coding.{Coding}
 use Rattle.ec_tool.specs.declared.request.Request.{Request}
 use Rattle.ec_tool.specs.declared.request.Request.TheVariants.{Wrong, Exists, Validate, Size, Encode, Decode}
 

@@ -7,9 +7,10 @@ use Rattle.plugin_reg.specs.Opening.{IsRefused}
 use Rattle.profile_texts.specs.declared.reading.RegFault.{RegFault}
 use Rattle.profile_texts.specs.declared.reading.RegFault.TheVariants as reg
 use Rattle.ec_tool.specs.Outcomes.{Shows}
-use Rattle.ec_tool.specs.Stops.{status_of, line_of, status_after, shown_after, stop_of_registry, StopsByJob}
-use Rattle.ec_tool.specs.Words.{Job}
-use Rattle.ec_tool.specs.declared.stop.Stop.{Stop}
+use Rattle.ec_files.specs.Stops.{status_of, line_of, status_after, stop_of_registry}
+use Rattle.ec_tool.specs.Stops.{shown_after, StopsByJob}
+use Rattle.ec_files.specs.Jobs.{Job}
+use Rattle.ec_files.specs.declared.stop.Stop.{Stop}
 
 by_registry : (profile : List ℕ) (shown : CodeRows → List ℕ) (why : RegFault) → ((f : ProfileFault) → why ≡ reg.Profile f → IsRefused profile f)
     → Shows profile shown (status_of (stop_of_registry why)) (line_of (stop_of_registry why))

@@ -10,23 +10,24 @@ use Rattle.ec_code.specs.Refusals.{IsCodeOf}
 use Rattle.ec_code.specs.declared.profile.Profile.{Profile}
 use Rattle.lrc_layers.specs.Laws.{AreAlike, LayersHaveOneCode}
 use Rattle.plugin_reg.specs.Opening.{GivesProfile}
-use Rattle.ec_tool.specs.Chunks.{AreBelow, Written, after, AreChunkFiles}
-use Rattle.ec_tool.specs.Files.{FileMap, max_file}
+use Rattle.ec_files.specs.Chunks.{AreBelow, Written, after, AreChunkFiles}
+use Rattle.ec_files.specs.Files.{FileMap, max_file}
 use Rattle.ec_tool.specs.Headline.{Run}
 use Rattle.ec_tool.specs.Jobs.{GivesJob}
-use Rattle.ec_tool.specs.Laws.{Follows, ComesBack, EncodedRunsComeBack}
-use Rattle.ec_tool.specs.Outcomes.{Codes, EncodeEnds, DecodeEnds}
-use Rattle.ec_tool.specs.Requests.{job_of}
-use Rattle.ec_tool.specs.Runs.{Encodes, Decodes}
-use Rattle.ec_tool.specs.Words.{Job}
+use Rattle.ec_tool.specs.Laws.{Follows, EncodedRunsComeBack}
+use Rattle.ec_files.specs.Laws.{ComesBack}
+use Rattle.ec_tool.specs.Outcomes.{Codes}
+use Rattle.ec_files.specs.Outcomes.{EncodeEnds, DecodeEnds}
+use Rattle.ec_files.specs.Jobs.{job_of, Job}
+use Rattle.ec_files.specs.Runs.{Encodes, Decodes}
 use Rattle.ec_tool.specs.declared.request.Request.TheVariants.{Decode}
-use Rattle.ec_tool.proofs.BackLemmas.{come_back}
-use Rattle.ec_tool.proofs.DecodeLemmas.{decode_fails_5}
+use Rattle.ec_files.proofs.BackLemmas.{come_back}
+use Rattle.ec_files.proofs.DecodeLemmas.{decode_fails_5}
 use Rattle.ec_tool.proofs.DoneLemmas.{some_wanted}
-use Rattle.ec_tool.proofs.EncodeLemmas.{encode_fails_5}
+use Rattle.ec_files.proofs.EncodeLemmas.{encode_fails_5}
 use Rattle.ec_tool.proofs.SameCodeLemmas.{codes_one}
-use Rattle.ec_tool.proofs.SameDecodeLemmas.{decided_or_not}
-use Rattle.ec_tool.proofs.SameEncodeLemmas.{list_as, below_or_not}
+use Rattle.ec_files.proofs.SameDecodeLemmas.{decided_or_not}
+use Rattle.ec_files.proofs.SameEncodeLemmas.{list_as, below_or_not}
 use Rattle.ec_tool.proofs.SameProfileLemmas.{given_once}
 use Rattle.ec_tool.proofs.SameRunLemmas.{ended_as, not_both_jobs}
 

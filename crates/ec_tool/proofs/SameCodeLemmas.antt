@@ -21,7 +21,7 @@ use Rattle.ec_code.proofs.LayoutLemmas.{data_of_made, length_of_made, length_of_
 use Rattle.gf256.proofs.CallerLemmas.{field_product-lt}
 use Rattle.lrc_layers.specs.Laws.{AreAlike, LayersHaveOneCode}
 use Rattle.ec_tool.specs.Laws.{CodesAreOne}
-use Rattle.ec_tool.proofs.QuotientLemmas.{equal_from_sum, one_quotient, product_some}
+use Rattle.ec_files.proofs.QuotientLemmas.{equal_from_sum, one_quotient, product_some}
 
 -- ---- the entries of coding rows
 

@@ -9,24 +9,28 @@ use Rattle.lrc_layers.specs.Laws.{AreAlike, LayersHaveOneCode}
 use Rattle.plugin_reg.specs.Opening.{fault_line}
 use Rattle.read_plan.specs.Laws.{LeastPlanIsOne}
 use Rattle.stripe_map.specs.Sizes.{chunk_size_of}
-use Rattle.ec_tool.specs.Files.{FileMap}
+use Rattle.ec_files.specs.Files.{FileMap}
 use Rattle.ec_tool.specs.Headline.{Run, Does}
 use Rattle.ec_tool.specs.Jobs.{IsRefusedJob, GivesJob}
 use Rattle.ec_tool.specs.Laws.{OutcomesAreOne}
-use Rattle.ec_tool.specs.Outcomes.{Shows, Codes, EncodeEnds, DecodeEnds}
-use Rattle.ec_tool.specs.Requests.{job_of, Asks}
-use Rattle.ec_tool.specs.Runs.{Encodes, Decodes, parameters_text, size_text}
-use Rattle.ec_tool.specs.Sameness.{AskTheSame, HoldBytes}
+use Rattle.ec_tool.specs.Outcomes.{Shows, Codes}
+use Rattle.ec_files.specs.Outcomes.{EncodeEnds, DecodeEnds}
+use Rattle.ec_files.specs.Jobs.{job_of, Job}
+use Rattle.ec_tool.specs.Requests.{Asks}
+use Rattle.ec_files.specs.Runs.{Encodes, Decodes}
+use Rattle.ec_tool.specs.Parameters.{parameters_text, size_text}
+use Rattle.ec_tool.specs.Sameness.{AskTheSame}
+use Rattle.ec_files.specs.Laws.{HoldBytes}
 use Rattle.ec_tool.specs.Texts.{OneOf, number_line}
-use Rattle.ec_tool.specs.Words.{Words, Job, texts_of}
+use Rattle.ec_tool.specs.Words.{Words, texts_of}
 use Rattle.ec_tool.specs.declared.request.Request.{Request}
 use Rattle.ec_tool.specs.declared.request.Request.TheVariants.{Wrong, Exists, Validate, Size, Encode, Decode}
-use Rattle.ec_tool.proofs.DecodeLemmas.{decode_fails_5}
+use Rattle.ec_files.proofs.DecodeLemmas.{decode_fails_5}
 use Rattle.ec_tool.proofs.DoneLemmas.{some_wanted}
-use Rattle.ec_tool.proofs.EncodeLemmas.{encode_fails_5}
+use Rattle.ec_files.proofs.EncodeLemmas.{encode_fails_5}
 use Rattle.ec_tool.proofs.SameCodeLemmas.{codes_one}
-use Rattle.ec_tool.proofs.SameDecodeLemmas.{decodes_one}
-use Rattle.ec_tool.proofs.SameEncodeLemmas.{Same, encodes_one}
+use Rattle.ec_files.proofs.SameDecodeLemmas.{decodes_one}
+use Rattle.ec_files.proofs.SameEncodeLemmas.{Same, encodes_one}
 use Rattle.ec_tool.proofs.SameProfileLemmas.{refused_once, given_once, not_both_ways}
 use Rattle.ec_tool.proofs.SameWordLemmas.{one_thing}
 

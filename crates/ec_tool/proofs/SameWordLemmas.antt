@@ -4,8 +4,8 @@ use Rattle.std.specs.Prelude.{codes}
 use Rattle.std.proofs.lemmas.Fmt.{decimal_injective}
 use Rattle.ec_words.specs.Numbers.{IsNumberText}
 use Rattle.ec_tool.specs.Laws.{WordsAskForOneThing}
-use Rattle.ec_tool.specs.Requests.{job_of}
-use Rattle.ec_tool.specs.Words.{Words, Job, AskExists, AskValidate, AskSize, AskCoding, IsList, texts_of}
+use Rattle.ec_files.specs.Jobs.{job_of, Job}
+use Rattle.ec_tool.specs.Words.{Words, AskExists, AskValidate, AskSize, AskCoding, IsList, texts_of}
 use Rattle.ec_tool.specs.declared.request.Request.TheVariants.{Wrong, Exists, Validate, Size, Encode, Decode}
 use Rattle.ec_tool.proofs.WantedLemmas.{same_numbers}
 use Rattle.ec_tool.proofs.WordLemmas.{first_word}

@@ -7,7 +7,8 @@ use Rattle.std.specs.declared.alloc.Global.{Global}
 use Rattle.std.proofs.lemmas.Iterator.Search.{true_from_All}
 use Rattle.std.proofs.lemmas.List.{get_or-map, length-map}
 use Rattle.std.proofs.lemmas.List.Elements.{All-map, All-from_all_within}
-use Rattle.ec_tool.specs.Words.{AreWrong, AskCoding, IsParameter, Job, Words, texts_of}
+use Rattle.ec_tool.specs.Words.{AreWrong, AskCoding, IsParameter, Words, texts_of}
+use Rattle.ec_files.specs.Jobs.{Job}
 
 -- a word is a parameter
 abbrev pub Is : String Global → Type 0

@@ -3,11 +3,13 @@
 -- Read first: Words.antt (what the words ask for), Chunks.antt and Runs.antt (what encoding and decoding come to), Outcomes.antt
 -- (refusals and failures), Texts.antt (lines).
 use Rattle.std.specs.Prelude.{◌≡◌, ◌⊎◌, ℕ, List, Option}
-use Rattle.ec_tool.specs.Files.{FileMap}
-use Rattle.ec_tool.specs.Outcomes.{Shows, Codes, EncodeEnds, DecodeEnds}
-use Rattle.ec_tool.specs.Requests.{job_of}
-use Rattle.ec_tool.specs.Runs.{parameters_text, size_text}
-use Rattle.ec_tool.specs.Texts.{EndsWith, usage_line, exists_line, unknown_plugin_line}
+use Rattle.ec_files.specs.Files.{FileMap}
+use Rattle.ec_tool.specs.Outcomes.{Shows, Codes}
+use Rattle.ec_files.specs.Outcomes.{EncodeEnds, DecodeEnds}
+use Rattle.ec_files.specs.Jobs.{job_of}
+use Rattle.ec_tool.specs.Parameters.{parameters_text, size_text}
+use Rattle.ec_tool.specs.Texts.{EndsWith, exists_line, unknown_plugin_line}
+use Rattle.ec_files.specs.Texts.{usage_line}
 use Rattle.ec_tool.specs.Words.{texts_of}
 use Rattle.ec_tool.specs.declared.request.Request.{Request}
 use Rattle.ec_tool.specs.declared.request.Request.TheVariants.{Wrong, Exists, Validate, Size, Encode, Decode}

@@ -5,7 +5,7 @@ use Rattle.ec_code.specs.declared.profile.Profile.{Profile}
 use Rattle.ec_code.specs.declared.fault.ProfileFault.{ProfileFault}
 use Rattle.ec_code.specs.declared.fault.ProfileFault.TheVariants as fault
 use Rattle.plugin_reg.specs.Opening.{GivesProfile, IsRefused}
-use Rattle.ec_tool.specs.Words.{Job}
+use Rattle.ec_files.specs.Jobs.{Job}
 
 -- a job is refused: its profile with its first fault, or else its unit
 abbrev pub IsRefusedJob : Job → ProfileFault → Type 0

@@ -1,12 +1,8 @@
 -- Requests, as they are read from the words. Source: this project.
-use Rattle.ec_tool.specs.declared.request.Coding.{Coding}
+use Rattle.ec_files.specs.Jobs.{job_of}
 use Rattle.ec_tool.specs.declared.request.Request.{Request}
 use Rattle.ec_tool.specs.declared.request.Request.TheVariants.{Wrong, Exists, Validate, Size, Encode, Decode}
-use Rattle.ec_tool.specs.Words.{Words, texts_of, Job, AreWrong, AskExists, AskValidate, AskSize, AskEncode, AskDecode}
-
--- the job of a request
-abbrev pub job_of : Coding → Job
-job_of coding = record { profile = coding.profile.now; unit = coding.unit; wanted = coding.wanted.items; name = coding.name.now }
+use Rattle.ec_tool.specs.Words.{Words, texts_of, AreWrong, AskExists, AskValidate, AskSize, AskEncode, AskDecode}
 
 -- the words ask for this
 abbrev pub Asks : Words → Request → Type 0

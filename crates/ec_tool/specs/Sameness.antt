@@ -3,9 +3,8 @@ use Rattle.std.specs.Prelude.{◌≡◌, ◌≢◌, ◌<◌, ◌^◌, ⊤, ℕ, 
 use Rattle.std.specs.FinMap as map
 use Rattle.std.specs.Io.KnownBytes.{Appends}
 use Rattle.std.specs.List.{All}
-use Rattle.ec_tool.specs.Files.{FileMap}
 use Rattle.ec_tool.specs.Headline.{Run}
-use Rattle.ec_tool.specs.Requests.{job_of}
+use Rattle.ec_files.specs.Jobs.{job_of}
 use Rattle.ec_tool.specs.Words.{texts_of}
 use Rattle.ec_tool.specs.declared.request.Request.{Request}
 use Rattle.ec_tool.specs.declared.request.Request.TheVariants.{Wrong, Exists, Validate, Size, Encode, Decode}
@@ -19,10 +18,6 @@ AskTheSame (Size profile size) (Size other its_size) = (profile.now ≡ other.no
 AskTheSame (Encode coding) (Encode other) = job_of coding ≡ job_of other
 AskTheSame (Decode coding) (Decode other) = job_of coding ≡ job_of other
 AskTheSame _ _ = ⊥
-
--- each file holds bytes
-abbrev pub HoldBytes : FileMap → Type 0
-HoldBytes files = (name held : List ℕ) → map.get files name ≡ Some held → All (λ b. b < 2 ^ 8) held
 
 -- a run came to its own end: the files and the output did not fail, and memory did not run out
 pub record IsUndisturbed (run : Run) : Type 0 where

@@ -5,33 +5,11 @@ use Rattle.std.specs.Io.KnownBytes.{Appends}
 use Rattle.rig_disk.specs.Said.{SaysFront}
 pub use Rattle.ec_words.specs.Numbers.{OneOf}
 
-abbrev pub usage_line : List ℕ
-usage_line = codes "usage: ceph_ec_tool test-plugin-exists, validate-profile, calc-chunk-size, encode, decode\n"
-
 abbrev pub exists_line : List ℕ
 exists_line = codes "exists\n"
 
 abbrev pub unknown_plugin_line : List ℕ
 unknown_plugin_line = codes "unknown plugin\n"
-
--- a word, and the name of a file
-abbrev pub line_with : List ℕ → List ℕ → List ℕ
-line_with word name = word ++ (32 ∷ name ++ 10 ∷ [])
-
-abbrev pub missing_line : List ℕ → List ℕ
-missing_line name = line_with (codes "missing") name
-
-abbrev pub failed_line : List ℕ → List ℕ
-failed_line name = line_with (codes "failed") name
-
-abbrev pub too_long_line : List ℕ → List ℕ
-too_long_line name = line_with (codes "too long") name
-
-abbrev pub not_decided_line : List ℕ
-not_decided_line = codes "not decided\n"
-
-abbrev pub lengths_line : List ℕ
-lengths_line = codes "lengths\n"
 
 -- a number on a line of its own
 abbrev pub number_line : ℕ → List ℕ

@@ -4,6 +4,7 @@ use Rattle.std.specs.List.{slice_split, All}
 use Rattle.std.specs.Fmt.{decimal}
 use Rattle.std.specs.declared.alloc.Global.{Global}
 use Rattle.ec_words.specs.Numbers.{IsNumberText}
+use Rattle.ec_files.specs.Jobs.{Job}
 
 -- the words as the program gets them
 abbrev pub Words : Type 0
@@ -50,13 +51,6 @@ pub record AskSize (words : Words) (profile : List ℕ) (size : ℕ) : Type 0 wh
   pub are : texts_of words ≡ codes "calc-chunk-size" ∷ profile ∷ text ∷ []
   pub spelled : IsNumberText text size
   pub within : size ≤ max_size
-
--- a job: the chunks of some positions, by the code of a profile, in stripes of units of these bytes
-pub record Job : Type 0 where
-  pub profile : List ℕ
-  pub unit : ℕ
-  pub wanted : List ℕ
-  pub name : List ℕ
 
 -- `COMMAND PROFILE UNIT WANT FNAME`
 pub record AskCoding (command : List ℕ) (words : Words) (job : Job) : Type 0 where

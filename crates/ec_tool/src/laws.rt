@@ -1,27 +1,11 @@
-//! Laws about files, for every caller. Each is the contract of a function that does nothing.
+//! Laws about runs, for every caller. Each is the contract of a function that does nothing.
 ghost use Rattle.std.specs.Prelude.{◌≡◌, ◌<◌, ℕ, length, slice_index_or};
 ghost use Rattle.plugin_reg.specs.Boxes.{HaveBox};
-ghost use Rattle.ec_tool.specs.Laws.{AnswersAreExact, WrittenFilesAreFound, EncodedFilesComeBack, EncodedRunsComeBack, WordsAskForOneThing, ProfilesAreOne, CodesAreOne, EncodedFilesAreOne, DecodedFilesAreOne, OutcomesAreOne};
+ghost use Rattle.ec_tool.specs.Laws.{EncodedRunsComeBack, WordsAskForOneThing, ProfilesAreOne, CodesAreOne, OutcomesAreOne};
 
 use ec_code::Code;
 use lrc_layers::layers_have_one_code;
 use read_plan::least_plan_is_one;
-
-/// An answer that is neither `Failed` nor `NoMemory` comes exactly if the file is as the answer says.
-pub fn answers_are_exact()
-    ensures { AnswersAreExact }
-{}
-
-/// After a write that succeeds, the file has its bytes, and each other file stays.
-pub fn written_files_are_found()
-    ensures { WrittenFilesAreFound }
-{}
-
-/// The chunk files that `encode` wrote of a file are decoded to that file, padded with zeros, from each list of positions that
-/// decides the data.
-pub fn encoded_files_come_back()
-    ensures { EncodedFilesComeBack }
-{}
 
 /// A run of `decode` over the files that a run of `encode` left gives the file back, by boxes of these names.
 pub fn encoded_runs_come_back(codes: &[Box<dyn Code>])
@@ -45,18 +29,6 @@ pub fn codes_are_one()
     ensures { CodesAreOne }
 {
     layers_have_one_code()
-}
-
-/// The outcome of `encode` over told files is determined.
-pub fn encoded_files_are_one()
-    ensures { EncodedFilesAreOne }
-{}
-
-/// The outcome of `decode` over told files is determined.
-pub fn decoded_files_are_one()
-    ensures { DecodedFilesAreOne }
-{
-    least_plan_is_one()
 }
 
 /// Two runs of the same words, by boxes of these names and over the same told files, end alike, except for failures and want of

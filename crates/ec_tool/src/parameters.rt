@@ -3,7 +3,7 @@ ghost use Rattle.std.specs.Prelude.{◌≡◌, ◌≤◌, ◌++◌, [], IfOk, On
 ghost use Rattle.std.specs.List.{flat_map};
 ghost use Rattle.ec_code.specs.Shapes.{HasShape};
 ghost use Rattle.ec_model.specs.Codes.{CodeRows};
-ghost use Rattle.ec_tool.specs.Runs.{parameter_of, parameter_line, parameters_text, size_text};
+ghost use Rattle.ec_tool.specs.Parameters.{parameter_of, parameter_line, parameters_text, size_text};
 ghost use Rattle.ec_tool.specs.Words.{texts_of, max_size};
 
 use ec_code::{Code, Shape};

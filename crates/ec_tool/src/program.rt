@@ -7,13 +7,13 @@ ghost use Rattle.ec_tool.specs.Headline.{IsDone};
 ghost use Rattle.ec_tool.specs.Requests.{Asks};
 ghost use Rattle.ec_tool.specs.Texts.{OneOf, EndsWith, exists_line, unknown_plugin_line};
 
-use crate::Files;
 use crate::commands::{decode, encode, size, validate};
 use crate::request::Request;
 use crate::saying::{end, say, show};
-use crate::texts::{EXISTS, UNKNOWN_PLUGIN, USAGE};
+use crate::texts::{EXISTS, UNKNOWN_PLUGIN};
 use crate::words::requested;
 use ec_code::Code;
+use ec_files::{Files, USAGE};
 use plugin_reg::has_box;
 use rig_disk::{Rig, VOICE};
 use std::alloc::Global;

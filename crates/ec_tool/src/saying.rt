@@ -1,11 +1,12 @@
 //! The last line of a run, and its status.
 ghost use Rattle.std.specs.Prelude.{◌≡◌, ◌≢◌, ℕ};
 ghost use Rattle.rig_disk.specs.Faults.{Rose};
-ghost use Rattle.ec_tool.specs.Stops.{status_of, line_of, status_after, line_after, shown_after};
+ghost use Rattle.ec_files.specs.Stops.{status_of, line_of, status_after, line_after};
+ghost use Rattle.ec_tool.specs.Stops.{shown_after};
 ghost use Rattle.ec_tool.specs.Texts.{EndsWith};
 
 use crate::program::ToolStatus;
-use crate::stop::Stop;
+use ec_files::Stop;
 use ec_words::Bytes;
 use rig_disk::{Rig, VOICE};
 use std::alloc::Global;

@@ -2,11 +2,13 @@
 ghost use Rattle.std.specs.Prelude.{◌≡◌, ◌↔◌, ◌≤◌, ◌∷◌, ℕ, List, IfOk, IfSome, IfNone, IsTrue, codes};
 ghost use Rattle.std.specs.List.{All};
 ghost use Rattle.ec_words.specs.Numbers.{IsNumberText};
-ghost use Rattle.ec_tool.specs.Requests.{Asks, job_of};
-ghost use Rattle.ec_tool.specs.Words.{Words, Job, AskCoding, IsParameter, max_size, texts_of};
+ghost use Rattle.ec_tool.specs.Requests.{Asks};
+ghost use Rattle.ec_files.specs.Jobs.{job_of, Job};
+ghost use Rattle.ec_tool.specs.Words.{Words, AskCoding, IsParameter, max_size, texts_of};
 
-use crate::request::{Coding, Request};
+use crate::request::Request;
 use crate::wanted::read_wanted;
+use ec_files::Coding;
 use ec_words::{NoMemory, read_u64};
 use std::alloc::Global;
 

@@ -4,7 +4,7 @@ use crate::filling::filled;
 use crate::serving::served;
 use crate::showing::show_files;
 use anyhow::{Result, bail};
-use ec_tool::MemFiles;
+use ec_files::MemFiles;
 use ec_words::read_u64;
 use rig_disk::{MemRig, VOICE};
 use std::alloc::Global;

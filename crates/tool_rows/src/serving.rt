@@ -1,7 +1,8 @@
 //! A run of `ceph_ec_tool` in memory.
 
 use ec_code::Code;
-use ec_tool::{MemFiles, ToolStatus, tool};
+use ec_files::MemFiles;
+use ec_tool::{ToolStatus, tool};
 use ec_words::NoMemory;
 use lrc_layers::Lrc;
 use plugin_reg::has_each_plugin;

@@ -2,7 +2,7 @@
 ghost use Rattle.std.specs.Prelude.{◌≤◌, length};
 
 use anyhow::Result;
-use ec_tool::MemFiles;
+use ec_files::MemFiles;
 use std::alloc::Global;
 
 /// The names of the files that are looked at.

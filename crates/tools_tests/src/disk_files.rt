@@ -1,6 +1,6 @@
 //! Real files: they are written, read and refused as docs/TOOL.md says.
 
-use ec_tool::{DiskFiles, FileFault, Files, MAX_FILE, read_pieces};
+use ec_files::{DiskFiles, FileFault, Files, MAX_FILE, read_pieces};
 use std::alloc::Global;
 use std::fs::{self, File};
 use std::io::{self, ErrorKind, Read};

@@ -1,6 +1,6 @@
 use Rattle.std.proofs.Common.{List, ℕ, Err, ap, subst}
 use Rattle.plugin_reg.specs.Opening.{IsRefused}
-use Rattle.ec_tool.specs.Requests.{job_of}
+use Rattle.ec_files.specs.Jobs.{job_of}
 use Rattle.ec_tool.proofs.ProfileLemmas.{job_stops}
 use Rattle.ec_tool.proofs.commands.open_job.Goals as goal
 

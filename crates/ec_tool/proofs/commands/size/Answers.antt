@@ -17,7 +17,7 @@ returns-clause-value g c =
       opened.profile,
       code,
       subst (λ (t : List ℕ). GivesProfile t opened.profile) c.as_bytes.ensures.value c.in_ok-opened.ensures.gives,
-      subst (λ pair. IsCodeOf opened.profile ((goal.Code-dyn g pair).meaning pair.1)) (sym c.as_ref.ensures.1) (c.in_ok-opened.ensures.made c.index-codes-opened.result),
+      subst (λ pair. IsCodeOf opened.profile ((goal.Code-dyn g pair).meaning pair.1)) (sym c.as_ref.ensures.1) (c.in_ok-opened.ensures.picked.made c.index-codes-opened.result),
       refl,
       c.in_ok-text.ensures,
     ))

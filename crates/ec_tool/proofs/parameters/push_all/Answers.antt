@@ -1,5 +1,5 @@
 use Rattle.std.proofs.Common.{◌++◌, codes, ap, sym, ◌∙◌, append_assoc, append-nil}
-use Rattle.ec_tool.specs.Runs.{parameter_line}
+use Rattle.ec_tool.specs.Parameters.{parameter_line}
 use Rattle.ec_tool.proofs.parameters.push_all.Goals as goal
 
 pub returns : goal.returns

@@ -2,7 +2,7 @@ use Rattle.std.proofs.Common.{◌≡◌, ◌++◌, take}
 use Rattle.std.specs.List.{flat_map}
 use Rattle.ec_model.specs.Codes.{CodeRows}
 use Rattle.ec_code.specs.Shapes.{HasShape}
-use Rattle.ec_tool.specs.Runs.{parameter_line}
+use Rattle.ec_tool.specs.Parameters.{parameter_line}
 use Rattle.ec_tool.specs.Words.{texts_of}
 use Rattle.ec_tool.proofs.parameters.push_parameters.Given as goal
 

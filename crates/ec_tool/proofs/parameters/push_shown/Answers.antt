@@ -1,7 +1,7 @@
 use Rattle.std.proofs.Common.{◌≡◌, ◌++◌, List, ℕ, OnOk, length, sym, subst, arith}
 use Rattle.ec_model.specs.Codes.{CodeRows}
 use Rattle.ec_code.specs.Shapes.{HasShape}
-use Rattle.ec_tool.specs.Runs.{parameters_text}
+use Rattle.ec_tool.specs.Parameters.{parameters_text}
 use Rattle.ec_tool.proofs.ParameterLemmas.{no_texts}
 use Rattle.ec_tool.proofs.parameters.push_shown.Goals as goal
 

@@ -1,0 +1,14 @@
+pub mod Accesses
+pub mod Chunks
+pub mod Decoding
+pub mod Encoding
+pub mod Files
+pub mod Jobs
+pub mod Joining
+pub mod Laws
+pub mod MemFiles
+pub mod Outcomes
+pub mod Pieces
+pub mod Runs
+pub mod Stops
+pub mod Texts

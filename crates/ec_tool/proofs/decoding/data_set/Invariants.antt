@@ -1,6 +1,0 @@
-use Rattle.std.proofs.Common.{slice_index}
-use Rattle.ec_tool.proofs.PositionLemmas.{IsSetBelow}
-use Rattle.ec_tool.proofs.decoding.data_set.Given as goal
-
-abbrev pub invariant-loop-j : goal.invariant-loop-j
-invariant-loop-j g l = IsSetBelow (slice_index ((goal.Code-dyn g l.code.now).meaning l.code.now.1).places) l.j l.bits

@@ -1,5 +1,0 @@
-use Rattle.ec_tool.proofs.BackLemmas.{come_back}
-use Rattle.ec_tool.proofs.laws.encoded_files_come_back.Goals as goal
-
-pub returns : goal.returns
-returns c = come_back

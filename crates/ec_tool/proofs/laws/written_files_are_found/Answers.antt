@@ -1,5 +1,0 @@
-use Rattle.ec_tool.proofs.FileLemmas.{written, others_stay}
-use Rattle.ec_tool.proofs.laws.written_files_are_found.Goals as goal
-
-pub returns : goal.returns
-returns c = λ old name bytes. (written old name bytes, others_stay old name bytes)
