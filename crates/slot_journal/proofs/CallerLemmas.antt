@@ -1,13 +1,15 @@
 -- What a journal holds stays while other slots are worked on, and what calls keep of other slots: what layers above cite.
-use Rattle.std.proofs.Common.{◌≡◌, ◌≢◌, ◌↔◌, inl, inr, ℕ, List, Option, Result, Ok, Err, IsSome, IsErrOf, true, false, ◌∙◌, sym, ap, subst}
+use Rattle.std.proofs.Common.{◌≡◌, ◌≢◌, ◌↔◌, ◌≤◌, inl, inr, ℕ, List, Option, Result, Ok, Err, IsSome, IsErrOf, true, false, refl, arith, ◌∙◌, sym, ap, subst}
 use Rattle.std.proofs.lemmas.Bool.{cases_eq}
 use Rattle.rig_disk.specs.Disk.{Image, Saying, on_told}
 use Rattle.rig_disk.specs.During.{During}
 use Rattle.rig_disk.specs.Frame.{KeepsOthers}
+use Rattle.rig_disk.proofs.FrameLemmas.{KeepsCounts-none, Spends-none, Spends-weaker}
 use Rattle.rig_disk.proofs.Moments.{at_end}
 use Rattle.slot_journal.specs.InUse.{Areas, open_text, first_told}
 use Rattle.slot_journal.specs.Journal.{slot_of, Holds, IsSettledWhereTold, InSlot}
 use Rattle.slot_journal.specs.Reading.{KeepsOtherSlots, SyncsAndReads, SyncsAndReadsArea}
+use Rattle.slot_journal.specs.Working.{WorksOnSlot}
 use Rattle.slot_journal.specs.declared.fault.JournalFault.{JournalFault}
 use Rattle.slot_journal.specs.declared.fault.JournalFault.TheVariants.{Failed, BadSlot}
 use Rattle.slot_journal.specs.declared.journal.Journal.{Journal}
@@ -119,3 +121,38 @@ module _ {R : Type 0} (is_here : R → ℕ → Type 0) (reads_of : R → ℕ →
         | inl same ↦ subst (λ x. IsSome (reads_of old slot x) ↔ IsSome (reads_of new slot x)) (sym same) only.told
         | inr other ↦ subst (λ (o : Option (List ℕ)). IsSome (reads_of old slot a) ↔ IsSome o) (sym (only.kept.reads slot a (inr other))) ((λ p. p), (λ p. p))
       ]
+
+module _ {R : Type 0} (is_here : R → ℕ → Type 0) (reads_of : R → ℕ → ℕ → Option (List ℕ)) (said_of : R → Option (List ℕ)) (faults_of : R → ℕ → ℕ)
+    (syncs_of written_of read_of : R → ℕ → Option ℕ) (slot : ℕ) where
+  -- what a slot's calls spend at most, by larger bounds
+  pub works_weaker : (s w r s' w' r' : ℕ) (old new : R) → s ≤ s' → w ≤ w' → r ≤ r'
+      → WorksOnSlot is_here reads_of said_of faults_of syncs_of written_of read_of slot s w r old new → WorksOnSlot is_here reads_of said_of faults_of syncs_of written_of read_of slot s' w' r' old new
+  works_weaker s w r s' w' r' old new ls lw lr works =
+      record { counts = Spends-weaker syncs_of written_of read_of slot s w r s' w' r' old new ls lw lr works.counts; kept = works.kept }
+
+  -- no call at all
+  pub works_none : (s w r : ℕ) (rig : R) → WorksOnSlot is_here reads_of said_of faults_of syncs_of written_of read_of slot s w r rig rig
+  works_none s w r rig = record {
+    counts = Spends-weaker syncs_of written_of read_of slot 0 0 0 s w r rig rig (omega arith) (omega arith) (omega arith) (Spends-none syncs_of written_of read_of slot rig);
+    kept = record {
+      here = λ i. ((λ before. before), (λ now. now));
+      reads = λ i a other. refl;
+      said = refl;
+      counts = KeepsCounts-none faults_of syncs_of written_of read_of slot rig;
+    };
+  }
+
+-- calls that sync and read a slot, where a failure of theirs is one of the caller's
+pub syncs_and_reads_if : {R : Type 0} (is_here : R → ℕ → Type 0) (reads_of : R → ℕ → ℕ → Option (List ℕ)) (said_of : R → Option (List ℕ)) (clock_of : R → ℕ)
+    (images_of : R → ℕ → Image → List ℕ → Type 0) (faults_of : R → ℕ → ℕ) (syncs_of written_of read_of : R → ℕ → Option ℕ) (slot n : ℕ)
+    (has_failed fails : Type 0) (old new : R) → (has_failed → fails)
+    → SyncsAndReads is_here reads_of said_of clock_of images_of faults_of syncs_of written_of read_of slot n has_failed old new
+    → SyncsAndReads is_here reads_of said_of clock_of images_of faults_of syncs_of written_of read_of slot n fails old new
+syncs_and_reads_if is_here reads_of said_of clock_of images_of faults_of syncs_of written_of read_of slot n has_failed fails old new leads only = record {
+  any_moment = only.any_moment;
+  kept = only.kept;
+  reads = λ fine. only.reads (λ failed. fine (leads failed));
+  told = only.told;
+  syncs = only.syncs;
+  written = only.written;
+}

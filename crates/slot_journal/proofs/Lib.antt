@@ -11,3 +11,4 @@ mod PieceLemmas
 mod RecordLemmas
 mod SpellingLemmas
 mod StepLemmas
+mod WorkingLemmas

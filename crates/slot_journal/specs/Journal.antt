@@ -1,10 +1,10 @@
 -- What a contract sees of a journal. Source: this project.
-use Rattle.std.specs.Prelude.{◌≡◌, ◌≢◌, ◌⊎◌, ◌<◌, ◌+◌, ◌-◌, ◌∷◌, [], ℕ, Bool, true, false, List, length, Option, Some, Result, OnOk, OnErr}
+use Rattle.std.specs.Prelude.{◌≡◌, ◌≢◌, ◌⊎◌, ◌<◌, ◌+◌, ◌-◌, ◌++◌, ◌∷◌, [], ℕ, Bool, true, false, List, length, Option, Some, Result, OnOk, OnErr}
 use Rattle.rig_disk.specs.Disk.{Image}
 use Rattle.slot_journal.specs.InUse.{Areas, area_in_use, text_in_use, told_area, told_text}
 use Rattle.slot_journal.specs.Limits.{area_limit}
 use Rattle.slot_journal.specs.Text.{IsText}
-use Rattle.slot_journal.specs.Writing.{next_gate, IsBeforeOrAfter}
+use Rattle.slot_journal.specs.Writing.{first_text, next_gate, IsBeforeOrAfter}
 use Rattle.slot_journal.specs.declared.journal.Journal.{Journal}
 
 abbrev pub slot_of : Journal → ℕ
@@ -63,6 +63,24 @@ pub record IsFresh (journal : Journal) (slot : ℕ) : Type 0 where
   pub area_is : area_of journal ≡ 0
   pub serial_is : serial_of journal ≡ 0
   pub unspent : is_spent journal ≡ false
+
+-- once a journal is made: the slot holds the one record, if the rig told the slot's text in use; the journal is settled where
+-- the rig tells it, new over the slot, and its closed gate stands behind the record
+pub record IsMade (old_reads reads : ℕ → ℕ → Option (List ℕ)) (images : Image → List ℕ → Type 0) (slot : ℕ)
+    (head body : List ℕ) (journal : Journal) : Type 0 where
+  pub holds : (text : List ℕ) → told_text slot (old_reads slot) ≡ Some text
+      → Holds reads images journal head (body ∷ []) (first_text head body)
+  pub settled : IsSettledWhereTold reads images journal
+  pub fresh : IsFresh journal slot
+  pub gate : gate_of journal ≡ next_gate 24 body
+
+-- once a record is added: whichever records the journal held, it holds them and the new one; and it is settled where the rig
+-- tells the slot's text in use
+pub record HasAdded (old_reads : ℕ → ℕ → Option (List ℕ)) (old_images : Image → List ℕ → Type 0) (old : Journal) (body : List ℕ)
+    (reads : ℕ → ℕ → Option (List ℕ)) (images : Image → List ℕ → Type 0) (new : Journal) : Type 0 where
+  pub holds : (head : List ℕ) (bodies : List (List ℕ)) (text : List ℕ) → Holds old_reads old_images old head bodies text
+      → (after : List ℕ) × Holds reads images new head (bodies ++ body ∷ []) after
+  pub settled : IsSettledWhereTold reads images new
 
 -- after a commit: the closed gate stands behind the new record, or the journal is spent
 pub record IsCommitted {T E : Type 0} (old new : Journal) (body : List ℕ) (result : Result T E) : Type 0 where

@@ -5,4 +5,5 @@ pub mod Laws
 pub mod Limits
 pub mod Reading
 pub mod Text
+pub mod Working
 pub mod Writing

@@ -1,12 +1,11 @@
 //! A journal: the records of a slot. One more may be added at a time.
 ghost use Rattle.std.specs.Prelude.{◌≡◌, ◌≢◌, ◌⊎◌, ◌≤◌, ◌+◌, ◌-◌, ◌^◌, ◌↔◌, ◌++◌, ◌∷◌, [], ℕ, List, length, Some, Err, false, IsTrue, IfOk, IfErr, IsErrOf, OnOk, OnErr};
 ghost use Rattle.rig_disk.specs.During.{During};
-ghost use Rattle.rig_disk.specs.Frame.{Spends, KeepsOthers};
 ghost use Rattle.slot_journal.specs.InUse.{told_text};
 ghost use Rattle.slot_journal.specs.Limits.{make_syncs, make_bytes, make_reads, load_syncs, commit_syncs, commit_bytes, prefix_len};
-ghost use Rattle.slot_journal.specs.Reading.{HasSlotCause, SyncsAndReadsArea};
+ghost use Rattle.slot_journal.specs.Reading.{HasSlotCause};
 ghost use Rattle.slot_journal.specs.Text.{IsBadText, max_body};
-ghost use Rattle.slot_journal.specs.Writing.{first_text, next_gate};
+ghost use Rattle.slot_journal.specs.Working.{WorksOnJournal, SyncsAndReadsJournal};
 
 use crate::limits::{AREA, PREFIX_LEN};
 use crate::load::read_text;
@@ -31,7 +30,7 @@ pub struct Journal {
 }
 
 impl Journal {
-    ghost use Rattle.slot_journal.specs.Journal.{slot_of, area_of, serial_of, gate_of, is_spent, room_of, Holds, IsSettledWhereTold, IsFresh, IsCommitted, InSlot, Commits, Makes, HaveInUse};
+    ghost use Rattle.slot_journal.specs.Journal.{slot_of, area_of, is_spent, room_of, Holds, IsSettledWhereTold, IsFresh, IsMade, HasAdded, IsCommitted, InSlot, Commits, Makes, HaveInUse};
     ghost use Rattle.slot_journal.specs.declared.fault.JournalFault.TheVariants.{Failed as SlotFailed, BadSlot, Spent, NoMemory as OutOfMemory};
 
     /// Makes a journal with one record in the place of what the slot holds. A crash at any instant leaves in use the text
@@ -47,21 +46,15 @@ impl Journal {
         requires some { 1 ≤ length body.now }
         requires fits { length body.now ≤ max_body }
 
-        ensures ok { IfOk result (λ journal. (text : List ℕ) → told_text slot (R.reads rig.old slot) ≡ Some text
-            → Holds (R.reads rig.new) (R.images rig.new (R.clock rig.new)) journal
-            head.now (body.now ∷ []) (first_text head.now body.now)) }
-        ensures settled { IfOk result (IsSettledWhereTold (R.reads rig.new) (R.images rig.new (R.clock rig.new))) }
-        ensures fresh { IfOk result (λ journal. IsFresh journal slot) }
-        ensures gate { IfOk result (λ journal. gate_of journal ≡ next_gate 24 body.now) }
+        ensures ok { IfOk result (IsMade (R.reads rig.old) (R.reads rig.new) (R.images rig.new (R.clock rig.new))
+            slot head.now body.now) }
         ensures faults { IfErr result (λ fault. fault ≡ SlotFailed) }
         ensures only_if_fault { HasSlotCause (R.faults rig.old slot) (R.faults rig.new slot) result }
 
         ensures any_moment { During R.clock R.images rig.old rig.new (InSlot (R.images rig.old (R.clock rig.old)) slot
             (Makes slot (R.reads rig.old slot) head.now body.now)) }
-        ensures counts { Spends R.syncs R.bytes_written R.bytes_read
-            slot make_syncs (length body.now + make_bytes) make_reads rig.old rig.new }
-        ensures kept { KeepsOthers R.is_here R.reads R.said R.faults R.syncs R.bytes_written R.bytes_read
-            slot 0 rig.old rig.new }
+        ensures kept { WorksOnJournal R.is_here R.reads R.said R.faults R.syncs R.bytes_written R.bytes_read
+            slot 0 make_syncs (length body.now + make_bytes) make_reads rig.old rig.new }
     {
         shut(rig, slot)?;
         write_first(rig, slot, head, body)?;
@@ -96,7 +89,7 @@ impl Journal {
             → told_text slot (R.reads rig.old slot) ≡ Some text → HaveInUse (R.images rig.new (R.clock rig.new)) slot text }
         ensures spent { IsErrOf result Spent → ⊥ }
         ensures only_if_fault { HasSlotCause (R.faults rig.old slot) (R.faults rig.new slot) result }
-        ensures kept { SyncsAndReadsArea R.is_here R.reads R.said R.clock R.images R.faults R.syncs R.bytes_written R.bytes_read
+        ensures kept { SyncsAndReadsJournal R.is_here R.reads R.said R.clock R.images R.faults R.syncs R.bytes_written R.bytes_read
             slot 0 load_syncs (IsErrOf result SlotFailed) rig.old rig.new }
     {
         let (gate, bodies) = read_text(alloc, rig, slot, head)?;
@@ -120,11 +113,8 @@ impl Journal {
         requires settled { is_spent self.old ≡ false
             → IsSettledWhereTold (R.reads rig.old) (R.images rig.old (R.clock rig.old)) self.old }
 
-        ensures ok { OnOk result ((head : List ℕ) (bodies : List (List ℕ)) (text : List ℕ)
-            → Holds (R.reads rig.old) (R.images rig.old (R.clock rig.old)) self.old head bodies text
-            → (after : List ℕ) × Holds (R.reads rig.new) (R.images rig.new (R.clock rig.new)) self.new
-            head (bodies ++ body.now ∷ []) after) }
-        ensures settled { OnOk result (IsSettledWhereTold (R.reads rig.new) (R.images rig.new (R.clock rig.new)) self.new) }
+        ensures ok { OnOk result (HasAdded (R.reads rig.old) (R.images rig.old (R.clock rig.old)) self.old body.now
+            (R.reads rig.new) (R.images rig.new (R.clock rig.new)) self.new) }
         ensures spent { (result ≡ Err JournalFault.Spent) ↔ IsTrue (is_spent self.old) }
         ensures unchanged { IsTrue (is_spent self.old) → rig.new ≡ rig.old }
         ensures faults { IfErr result (λ fault. (fault ≡ SlotFailed) ⊎ (fault ≡ Spent)) }
@@ -135,10 +125,8 @@ impl Journal {
         ensures any_moment { During R.clock R.images rig.old rig.new
             (InSlot (R.images rig.old (R.clock rig.old)) (slot_of self.old)
             (Commits (R.reads rig.old) (R.images rig.old (R.clock rig.old)) self.old body.now)) }
-        ensures counts { Spends R.syncs R.bytes_written R.bytes_read
-            (slot_of self.old) commit_syncs (length body.now + commit_bytes) 0 rig.old rig.new }
-        ensures kept { KeepsOthers R.is_here R.reads R.said R.faults R.syncs R.bytes_written R.bytes_read
-            (slot_of self.old) (area_of self.old) rig.old rig.new }
+        ensures kept { WorksOnJournal R.is_here R.reads R.said R.faults R.syncs R.bytes_written R.bytes_read
+            (slot_of self.old) (area_of self.old) commit_syncs (length body.now + commit_bytes) 0 rig.old rig.new }
     {
         if self.spent {
             return Err(JournalFault::Spent);

@@ -1,6 +1,5 @@
-use Rattle.std.proofs.Common.{rules, refl, ◌≡◌, ◌∙◌, ◌∷◌, ◌++◌, [], length, sym, ap, subst, arith}
-use Rattle.slot_journal.specs.Journal.{slot_of, gate_of, area_of, Holds}
-use Rattle.slot_journal.proofs.CallerLemmas.{other_slots}
+use Rattle.std.proofs.Common.{rules, refl, ◌≡◌, ◌≤◌, ◌∙◌, ◌∷◌, ◌++◌, [], length, sym, ap, subst, arith}
+use Rattle.slot_journal.specs.Journal.{slot_of, gate_of, Holds}
 use Rattle.shard_store.specs.Stories.{AreSpelled, shard_head}
 use Rattle.shard_store.specs.Stored.{head_in, gate_behind}
 use Rattle.shard_store.specs.Told.{Told, IsTold}
@@ -24,7 +23,7 @@ returns-in-Ok-clause-ok g c text flushed pending stored =
     let store = c.args.self.now in
     let t = store.story in
     let reads = g.R.Rig.reads c.commit.new.rig in
-    let done = c.in-Ok.ensures.ok (head_in store) stored.bodies text stored.holds in
+    let done = c.in-Ok.ensures.ok.holds (head_in store) stored.bodies text stored.holds in
     let slot : slot_of c.commit.new.self ≡ slot_of store.journal = c.commit.ensures.after.slot_is in
     let head : head_in store ≡ shard_head (slot_of c.commit.new.self) c.flushed.new.self.geometry store.n =
     ap (λ x. shard_head x t.geometry store.n) (sym slot) ∙ ap (λ (x : Told). shard_head (slot_of c.commit.new.self) x.geometry store.n) (sym c.flushed.ensures) in (
@@ -64,16 +63,13 @@ pub returns-then-is_flushed-clause-any_moment : goal.returns-then-is_flushed-cla
 returns-then-is_flushed-clause-any_moment g c = rests g.R.Rig.clock g.R.Rig.images c.args.rig.now (g.R.Rig.reads c.args.rig.now) c.args.self.now
 
 pub returns-in-Ok-clause-kept : goal.returns-in-Ok-clause-kept
-returns-in-Ok-clause-kept g c =
-    other_slots g.R.Rig.is_here g.R.Rig.reads g.R.Rig.said g.R.Rig.faults g.R.Rig.syncs g.R.Rig.bytes_written g.R.Rig.bytes_read (slot_of c.args.self.now.journal) (area_of c.args.self.now.journal) c.args.rig.now c.commit.new.rig c.commit.ensures.kept
+returns-in-Ok-clause-kept g c = c.commit.ensures.kept.on_slot.kept
 
 pub returns-in-Err-Failed-clause-kept : goal.returns-in-Err-Failed-clause-kept
-returns-in-Err-Failed-clause-kept g c =
-    other_slots g.R.Rig.is_here g.R.Rig.reads g.R.Rig.said g.R.Rig.faults g.R.Rig.syncs g.R.Rig.bytes_written g.R.Rig.bytes_read (slot_of c.args.self.now.journal) (area_of c.args.self.now.journal) c.args.rig.now c.commit.new.rig c.commit.ensures.kept
+returns-in-Err-Failed-clause-kept g c = c.commit.ensures.kept.on_slot.kept
 
 pub returns-in-Err-Spent-clause-kept : goal.returns-in-Err-Spent-clause-kept
-returns-in-Err-Spent-clause-kept g c =
-    other_slots g.R.Rig.is_here g.R.Rig.reads g.R.Rig.said g.R.Rig.faults g.R.Rig.syncs g.R.Rig.bytes_written g.R.Rig.bytes_read (slot_of c.args.self.now.journal) (area_of c.args.self.now.journal) c.args.rig.now c.commit.new.rig c.commit.ensures.kept
+returns-in-Err-Spent-clause-kept g c = c.commit.ensures.kept.on_slot.kept
 
 pub returns-in-Ok-clause-after : goal.returns-in-Ok-clause-after
 returns-in-Ok-clause-after g c =

@@ -1,6 +1,6 @@
 use Rattle.std.proofs.Common.{rules, ℕ, Result, Err, ◌≡◌, ◌∙◌, inl, inr, refl, sym, ap, subst}
 use Rattle.shard_model.specs.Objects.{Geometry}
-use Rattle.slot_journal.proofs.CallerLemmas.{syncs_and_reads, ok_unfailed}
+use Rattle.slot_journal.proofs.CallerLemmas.{syncs_and_reads_if, ok_unfailed}
 use Rattle.slot_journal.specs.Text.{IsBadText}
 use Rattle.slot_journal.specs.InUse.{text_in_use}
 use Rattle.slot_journal.specs.Journal.{slot_of, gate_of, Holds}
@@ -47,16 +47,16 @@ is_memory : {T : Type 0} (fault : JournalFault) → fault ≡ NoMemory → ◌�
 is_memory fault is failed = cc
 
 pub returns-in_ok-state-in-Ok-clause-kept : goal.returns-in_ok-state-in-Ok-clause-kept
-returns-in_ok-state-in-Ok-clause-kept g c = syncs_and_reads g.R.Rig.is_here g.R.Rig.reads g.R.Rig.said g.R.Rig.clock g.R.Rig.images g.R.Rig.faults g.R.Rig.syncs g.R.Rig.bytes_written g.R.Rig.bytes_read c.args.slot 0 1 _ _ c.args.rig.now c.load.new.rig (λ failed. absurd (ok_unfailed _ failed)) c.in-Ok.ensures.kept
+returns-in_ok-state-in-Ok-clause-kept g c = syncs_and_reads_if g.R.Rig.is_here g.R.Rig.reads g.R.Rig.said g.R.Rig.clock g.R.Rig.images g.R.Rig.faults g.R.Rig.syncs g.R.Rig.bytes_written g.R.Rig.bytes_read c.args.slot 1 _ _ c.args.rig.now c.load.new.rig (λ failed. absurd (ok_unfailed _ failed)) c.in-Ok.ensures.kept.on_slot
 
 pub returns-in_err-state-in-Ok-clause-kept : goal.returns-in_err-state-in-Ok-clause-kept
-returns-in_err-state-in-Ok-clause-kept g c = syncs_and_reads g.R.Rig.is_here g.R.Rig.reads g.R.Rig.said g.R.Rig.clock g.R.Rig.images g.R.Rig.faults g.R.Rig.syncs g.R.Rig.bytes_written g.R.Rig.bytes_read c.args.slot 0 1 _ _ c.args.rig.now c.load.new.rig (λ failed. absurd (ok_unfailed _ failed)) c.in-Ok.ensures.kept
+returns-in_err-state-in-Ok-clause-kept g c = syncs_and_reads_if g.R.Rig.is_here g.R.Rig.reads g.R.Rig.said g.R.Rig.clock g.R.Rig.images g.R.Rig.faults g.R.Rig.syncs g.R.Rig.bytes_written g.R.Rig.bytes_read c.args.slot 1 _ _ c.args.rig.now c.load.new.rig (λ failed. absurd (ok_unfailed _ failed)) c.in-Ok.ensures.kept.on_slot
 
 pub returns-in-Err-BadSlot-clause-kept : goal.returns-in-Err-BadSlot-clause-kept
-returns-in-Err-BadSlot-clause-kept g c = syncs_and_reads g.R.Rig.is_here g.R.Rig.reads g.R.Rig.said g.R.Rig.clock g.R.Rig.images g.R.Rig.faults g.R.Rig.syncs g.R.Rig.bytes_written g.R.Rig.bytes_read c.args.slot 0 1 _ _ c.args.rig.now c.load.new.rig (λ failed. absurd (is_bad _ _ c.in-Err-BadSlot.field-0-is failed)) c.in-Err-BadSlot.ensures.kept
+returns-in-Err-BadSlot-clause-kept g c = syncs_and_reads_if g.R.Rig.is_here g.R.Rig.reads g.R.Rig.said g.R.Rig.clock g.R.Rig.images g.R.Rig.faults g.R.Rig.syncs g.R.Rig.bytes_written g.R.Rig.bytes_read c.args.slot 1 _ _ c.args.rig.now c.load.new.rig (λ failed. absurd (is_bad _ _ c.in-Err-BadSlot.field-0-is failed)) c.in-Err-BadSlot.ensures.kept.on_slot
 
 pub returns-in-Err-NoMemory-clause-kept : goal.returns-in-Err-NoMemory-clause-kept
-returns-in-Err-NoMemory-clause-kept g c = syncs_and_reads g.R.Rig.is_here g.R.Rig.reads g.R.Rig.said g.R.Rig.clock g.R.Rig.images g.R.Rig.faults g.R.Rig.syncs g.R.Rig.bytes_written g.R.Rig.bytes_read c.args.slot 0 1 _ _ c.args.rig.now c.load.new.rig (λ failed. absurd (is_memory _ c.in-Err-NoMemory.field-0-is failed)) c.in-Err-NoMemory.ensures.kept
+returns-in-Err-NoMemory-clause-kept g c = syncs_and_reads_if g.R.Rig.is_here g.R.Rig.reads g.R.Rig.said g.R.Rig.clock g.R.Rig.images g.R.Rig.faults g.R.Rig.syncs g.R.Rig.bytes_written g.R.Rig.bytes_read c.args.slot 1 _ _ c.args.rig.now c.load.new.rig (λ failed. absurd (is_memory _ c.in-Err-NoMemory.field-0-is failed)) c.in-Err-NoMemory.ensures.kept.on_slot
 
 pub returns-in-Err-Failed-clause-kept : goal.returns-in-Err-Failed-clause-kept
-returns-in-Err-Failed-clause-kept g c = syncs_and_reads g.R.Rig.is_here g.R.Rig.reads g.R.Rig.said g.R.Rig.clock g.R.Rig.images g.R.Rig.faults g.R.Rig.syncs g.R.Rig.bytes_written g.R.Rig.bytes_read c.args.slot 0 1 _ _ c.args.rig.now c.load.new.rig (λ failed. refl) c.in-Err-Failed.ensures.kept
+returns-in-Err-Failed-clause-kept g c = syncs_and_reads_if g.R.Rig.is_here g.R.Rig.reads g.R.Rig.said g.R.Rig.clock g.R.Rig.images g.R.Rig.faults g.R.Rig.syncs g.R.Rig.bytes_written g.R.Rig.bytes_read c.args.slot 1 _ _ c.args.rig.now c.load.new.rig (λ failed. refl) c.in-Err-Failed.ensures.kept.on_slot
