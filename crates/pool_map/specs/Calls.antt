@@ -8,7 +8,6 @@ use Rattle.ec_words.specs.Readers.{IsWord}
 use Rattle.plugin_reg.specs.Canonical.{IsWritable}
 use Rattle.rig_disk.specs.Disk.{Image}
 use Rattle.rig_disk.specs.During.{During}
-use Rattle.rig_disk.specs.Frame.{Spends, KeepsOthers}
 use Rattle.slot_journal.specs.InUse.{told_text}
 use Rattle.slot_journal.specs.Journal.{Holds, InSlot, IsFresh, IsSettledWhereTold, HaveInUse, is_spent}
 use Rattle.slot_journal.specs.Text.{IsText}
@@ -42,13 +41,6 @@ pub record HasStepped {R T : Type 0} (reads_of : R → ℕ → ℕ → Option (L
   pub only_if_fault : HasMapCause (faults_of old 16) (faults_of new 16) result
   pub any_moment : During clock_of images_of old new (InSlot (images_of old (clock_of old)) 16
       (Steps (reads_of old) (images_of old (clock_of old)) (journal_of before) (map_of before) added))
-
--- a call spends at most so many syncs, bytes written and bytes read on the map's slot, and leaves all but that slot's first
--- area as it was
-pub record WorksOnMap {R : Type 0} (is_here_of : R → ℕ → Type 0) (reads_of : R → ℕ → ℕ → Option (List ℕ)) (said_of : R → Option (List ℕ)) (faults_of : R → ℕ → ℕ)
-    (syncs_of written_of read_of : R → ℕ → Option ℕ) (sync_count written_count read_count : ℕ) (old new : R) : Type 0 where
-  pub counts : Spends syncs_of written_of read_of 16 sync_count written_count read_count old new
-  pub others : KeepsOthers is_here_of reads_of said_of faults_of syncs_of written_of read_of 16 0 old new
 
 -- a pool may be made with a profile: it is accepted, can be written, and these numbers are the shape of its code
 pub record MayBeMade (p : Profile) (k n lead : ℕ) : Type 0 where

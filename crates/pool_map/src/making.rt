@@ -3,7 +3,8 @@ ghost use Rattle.std.specs.Prelude.{◌≡◌, ◌⊎◌, ◌≤◌, ◌∷◌, 
 ghost use Rattle.rig_disk.specs.During.{During};
 ghost use Rattle.slot_journal.specs.Journal.{InSlot};
 ghost use Rattle.slot_journal.specs.Limits.{make_syncs, make_reads};
-ghost use Rattle.pool_map.specs.Calls.{MayBeMade, IsMade, WorksOnMap};
+ghost use Rattle.slot_journal.specs.Working.{WorksOnJournal};
+ghost use Rattle.pool_map.specs.Calls.{MayBeMade, IsMade};
 ghost use Rattle.pool_map.specs.Faults.{HasMapCause};
 ghost use Rattle.pool_map.specs.Pool.{MakesMap};
 
@@ -54,8 +55,8 @@ impl PoolMap {
         ensures only_if_fault { HasMapCause (R.faults rig.old 16) (R.faults rig.new 16) result }
         ensures any_moment { During R.clock R.images rig.old rig.new (InSlot (R.images rig.old (R.clock rig.old)) 16
             (MakesMap (R.reads rig.old 16) profile.now shape.k shape.n)) }
-        ensures kept { WorksOnMap R.is_here R.reads R.said R.faults R.syncs R.bytes_written R.bytes_read
-            make_syncs 4062 make_reads rig.old rig.new }
+        ensures kept { WorksOnJournal R.is_here R.reads R.said R.faults R.syncs R.bytes_written R.bytes_read
+            16 0 make_syncs 4062 make_reads rig.old rig.new }
     {
         let first = first_body(alloc, profile, shape)?;
         let intervals = first_intervals(alloc, all_of(shape.n))?;

@@ -5,7 +5,8 @@ ghost use Rattle.ec_words.specs.Intervals.{JoinedLieBelow};
 ghost use Rattle.slot_journal.specs.Journal.{room_of};
 ghost use Rattle.slot_journal.specs.Limits.{commit_syncs};
 ghost use Rattle.map_model.specs.States.{fits, kept, last_epoch, epoch_limit};
-ghost use Rattle.pool_map.specs.Calls.{IsReady, HasStepped, WorksOnMap};
+ghost use Rattle.slot_journal.specs.Working.{WorksOnJournal};
+ghost use Rattle.pool_map.specs.Calls.{IsReady, HasStepped};
 ghost use Rattle.pool_map.specs.Pool.{journal_of, map_of, has_begun, IsWorn};
 ghost use Rattle.map_model.specs.Sound.{IsSound};
 ghost use Rattle.map_model.specs.Steps as steps;
@@ -55,8 +56,8 @@ impl PoolMap {
         ensures faults { IfErr result (λ fault. (fault ≡ MapFault.Failed) ⊎ ((fault ≡ MapFault.Worn) ⊎ (fault ≡ MapFault.NoMemory))) }
         ensures stepped { HasStepped R.reads R.clock R.images R.faults
             (steps.Begin (last_epoch (map_of self.old).state.intervals + 1) up.0) rig.old rig.new self.old self.new result }
-        ensures kept { WorksOnMap R.is_here R.reads R.said R.faults R.syncs R.bytes_written R.bytes_read
-            commit_syncs 13 0 rig.old rig.new }
+        ensures kept { WorksOnJournal R.is_here R.reads R.said R.faults R.syncs R.bytes_written R.bytes_read
+            16 0 commit_syncs 13 0 rig.old rig.new }
     {
         let last = last_epoch(self.state.intervals.as_slice());
         if is_worn(last, self.journal.room()) {
@@ -96,8 +97,8 @@ impl PoolMap {
         ensures faults { IfErr result (λ fault. fault ≡ MapFault.Failed) }
         ensures stepped { HasStepped R.reads R.clock R.images R.faults
             (steps.Alive (last_epoch (map_of self.old).state.intervals) joined.0 base) rig.old rig.new self.old self.new result }
-        ensures kept { WorksOnMap R.is_here R.reads R.said R.faults R.syncs R.bytes_written R.bytes_read
-            commit_syncs 25 0 rig.old rig.new }
+        ensures kept { WorksOnJournal R.is_here R.reads R.said R.faults R.syncs R.bytes_written R.bytes_read
+            16 0 commit_syncs 25 0 rig.old rig.new }
     {
         let epoch = last_epoch(self.state.intervals.as_slice());
         self.journal
@@ -116,8 +117,8 @@ impl PoolMap {
         ensures faults { IfErr result (λ fault. (fault ≡ MapFault.Failed) ⊎ (fault ≡ MapFault.Worn)) }
         ensures stepped { HasStepped R.reads R.clock R.images R.faults
             (steps.Mark slot (if down then 1 else 0)) rig.old rig.new self.old self.new result }
-        ensures kept { WorksOnMap R.is_here R.reads R.said R.faults R.syncs R.bytes_written R.bytes_read
-            commit_syncs 9 0 rig.old rig.new }
+        ensures kept { WorksOnJournal R.is_here R.reads R.said R.faults R.syncs R.bytes_written R.bytes_read
+            16 0 commit_syncs 9 0 rig.old rig.new }
     {
         if self.journal.room() < MARK_ROOM {
             return Err(MapFault::Worn);

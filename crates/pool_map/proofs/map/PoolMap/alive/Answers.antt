@@ -46,7 +46,7 @@ returns-clause-stepped g c =
           (with_state m (with_intervals m.state ivs)) after)
           (sym c.set_last_alive.ensures)
           (held_on m s c.alive_bytes.result body writable c.requires.fits (g.R.Rig.reads c.args.rig.now) images c.args.self.now.journal
-          (g.R.Rig.reads c.commit.new.rig) (g.R.Rig.images c.commit.new.rig (g.R.Rig.clock c.commit.new.rig)) c.commit.new.self c.in_ok-commit.ensures.ok text held);
+          (g.R.Rig.reads c.commit.new.rig) (g.R.Rig.images c.commit.new.rig (g.R.Rig.clock c.commit.new.rig)) c.commit.new.self c.in_ok-commit.ensures.ok.holds text held);
       step = search rules;
       settled = search rules;
       unspent = search rules;

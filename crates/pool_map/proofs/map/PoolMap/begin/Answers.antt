@@ -51,7 +51,7 @@ returns-in-Ok-clause-stepped g c =
           (with_state m (with_intervals m.state ivs)) after)
           (ap (λ e. c.args.self.now.state.intervals ++ begun e c.args.up.0 ∷ []) (ap (λ e. e + 1) (sym last)) ∙ sym c.in_ok-push.ensures.ok)
           (held_on m s c.begin_bytes.result body writable (begin_fits m.n m.state c.args.up.0 below c.requires.below) (g.R.Rig.reads c.args.rig.now) images c.args.self.now.journal
-          (g.R.Rig.reads c.commit.new.rig) (g.R.Rig.images c.commit.new.rig (g.R.Rig.clock c.commit.new.rig)) c.commit.new.self c.in-Ok.ensures.ok text held);
+          (g.R.Rig.reads c.commit.new.rig) (g.R.Rig.images c.commit.new.rig (g.R.Rig.clock c.commit.new.rig)) c.commit.new.self c.in-Ok.ensures.ok.holds text held);
       step = search rules;
       settled = search rules;
       unspent = search rules;

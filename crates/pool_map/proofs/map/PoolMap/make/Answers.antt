@@ -47,7 +47,7 @@ returns-clause-made g c =
         made_held (g.R.Rig.reads c.make.new.rig) (g.R.Rig.images c.make.new.rig (g.R.Rig.clock c.make.new.rig)) c.in_ok-journal.journal first.profile c.args.shape.k c.args.shape.n first.profile.stripe_unit
             c.map_head-head.result c.as_slice.result.now (first_text c.map_head-head.result c.as_slice.result.now) c.in_ok-intervals.intervals (c.in_ok-intervals.ensures ∙ ap alone c.all_of.ensures) word c.map_head-head.ensures
             (subst (λ b. IsMapOf c.args.shape.k first.profile.stripe_unit map_format (b ∷ []) (new_map first.profile c.args.shape.n)) (sym c.as_slice.ensures.value) c.in_ok-first.ensures.ok)
-            (c.in_ok-journal.ensures.ok text told),
+            (c.in_ok-journal.ensures.ok.holds text told),
       );
       is_new = record {
         own = first.profile;

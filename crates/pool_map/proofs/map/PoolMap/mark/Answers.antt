@@ -57,7 +57,7 @@ returns-clause-stepped g c =
           (with_state m (with_marks m.state x)) after)
           (ap (λ d. with_mark c.args.slot d c.args.self.now.state.marked.0) (sym c.down_byte-byte.ensures) ∙ sym c.with_mark-self.ensures)
           (held_on m s c.mark_bytes.result body writable (mark_fits m.n m.state c.args.slot c.args.down c.requires.slot) (g.R.Rig.reads c.args.rig.now) images c.args.self.now.journal
-          (g.R.Rig.reads c.commit.new.rig) (g.R.Rig.images c.commit.new.rig (g.R.Rig.clock c.commit.new.rig)) c.commit.new.self c.in_ok-commit.ensures.ok text held);
+          (g.R.Rig.reads c.commit.new.rig) (g.R.Rig.images c.commit.new.rig (g.R.Rig.clock c.commit.new.rig)) c.commit.new.self c.in_ok-commit.ensures.ok.holds text held);
       step = search rules;
       settled = search rules;
       unspent = search rules;
