@@ -193,7 +193,7 @@ made_list code k unit count p row stripes piece some same entries whole long has
 
 -- ---- one piece after another
 
--- the chunks of the first bytes were written into a file, and no other file changed; nothing where there was no piece
+-- the chunks of the first bytes were written into a file, and no other file changed; nothing changed if there was no piece
 pub record HasPart (code : CodeRows) (unit : ℕ) (file bytes : List ℕ) (p size count : ℕ) (before now : Option FileMap) : Type 0 where
   pub list : List ℕ
   pub are : IsPositionList code unit (take (count * size) bytes) p list

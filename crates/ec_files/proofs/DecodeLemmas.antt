@@ -235,7 +235,7 @@ all_read code job files chunks long status line now has other much fits = record
       (so.0, so.1, (so.2.0, so.2.1, so.2.2, subst (λ (n : ℕ). IsDecoded code job.unit files job.name so.2.0 n so.2.1) same so.2.3, so.2.4));
 }
 
--- the first length of what was fetched, where files are told
+-- the first length of what was fetched, if files are told
 pub first_of : Option FileMap → Job → List (Option (List ℕ)) → ℕ → Type 0
 first_of before job chunks long = WhereTold before (λ files. HasFetched files job chunks long)
 
@@ -327,7 +327,7 @@ told_unwritten code job (Some old) (Some new) chunks long has whole few told = (
   told,
 )
 
--- what is written where the chunks make a file, or how far that came
+-- what is written if the chunks make a file, or how far that came
 pub decode_written : {T : Type 0} → (code : CodeRows) (job : Job) (before now : Option FileMap) (was is : ℕ) (rows : List (List ℕ)) (chunks : List (Option (List ℕ))) (long set n count : ℕ)
     (result : Result T Stop)
     → AreBelow code.n job.wanted → DecideTheData code job.wanted → WhereTold before (λ files. HasFetched files job chunks long) → IsReadPlan code job.wanted set

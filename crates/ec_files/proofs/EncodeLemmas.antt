@@ -39,7 +39,7 @@ too_long_file o bytes long e = subst (λ (x : Option (List ℕ)). IsSomeAnd x (�
 not_missing : (o : Option (List ℕ)) → IsSomeAnd o (λ b. max_file < length b) → o ≡ None → ⊥
 not_missing o long none = subst (λ (x : Option (List ℕ)). IsSomeAnd x (λ b. max_file < length b)) none long
 
--- encoding that came to its file, which is not there or too long
+-- encoding came to its file, and that is not there or too long
 by_file : (code : CodeRows) (job : Job) (before now : Option FileMap) (status : ℕ) (line : List ℕ) → AreBelow code.n job.wanted → (status ≡ 2 → ⊥)
     → EncodeAnswers job status line → WhereTold before (EncodesFiles code job status line now) → Encodes code job before status line now
 by_file code job before now status line below not_2 answers files = record {

@@ -32,7 +32,7 @@ unit_small i j = grind (arith, nat_tests)
 
 -- ---- from the chunks to the file and back
 
--- the coefficient of position q where the chunk of position p is made of the chunks that made the file
+-- the coefficient of position q if the chunk of position p is made of the chunks that made the file
 abbrev back : CodeRows → List (List ℕ) → ℕ → ℕ → ℕ
 back code rows p q = sum_below code.k (λ j. field_product (entry_at code.rows p j) (slice_index (row_at rows j) q))
 

@@ -60,7 +60,7 @@ part_keeps None (Some now) name part has = absurd has
 part_keeps (Some old) None name part has = absurd has
 part_keeps (Some old) (Some new) name part has = λ other ne. ap (λ (files : FileMap). map.get files other) has ∙ others_stay old name part other ne
 
--- where a piece can't be put, all other files stay
+-- if a piece can't be put, all other files stay
 begun_in_part : {T E : Type 0} → (before now : Option FileMap) (name piece : List ℕ) (result : Result T E) → IsErr result → Puts before now name true piece result
     → Told before now (λ old new. KeepsOthers old new name)
 begun_in_part {T} {E} before now name piece (Ok done) err is = absurd cc

@@ -1,4 +1,4 @@
--- What a command comes to where its profile can't be opened.
+-- What a command comes to if its profile can't be opened.
 use Rattle.std.proofs.Common.{◌≡◌, ℕ, List, Result, Ok, Err, IfErr, refl, sym, subst, inl, inr}
 use Rattle.std.specs.Result.{IsErrAnd}
 use Rattle.ec_model.specs.Codes.{CodeRows}

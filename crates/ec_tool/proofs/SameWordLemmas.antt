@@ -10,7 +10,7 @@ use Rattle.ec_tool.specs.declared.request.Request.TheVariants.{Wrong, Exists, Va
 use Rattle.ec_tool.proofs.WantedLemmas.{same_numbers}
 use Rattle.ec_tool.proofs.WordLemmas.{first_word}
 
--- lists with a first element each, that are the same
+-- equal lists that have a first element each
 same_head : (x y : List ℕ) (xs ys : List (List ℕ)) → x ∷ xs ≡ y ∷ ys → x ≡ y
 same_head x y xs ys e = cc
 

@@ -29,7 +29,7 @@ same_numbers (x ∷ xs) (y ∷ ys) small below same =
     let rest = same_numbers xs ys (All-tail (λ n. n < 2 ^ 64) x xs small) (All-tail (λ n. n < 2 ^ 64) y ys below) more in
     λ i. one i ∷ rest i
 
--- the numbers of a list, where its pieces are these numbers
+-- the numbers of a list, if its pieces are these numbers
 pub distinct_numbers : (text wanted numbers : List ℕ) → IsList text wanted → AreNumbers (comma_pieces text) numbers → AreDistinct numbers
 distinct_numbers text wanted numbers list are =
     subst AreDistinct (same_numbers wanted numbers list.small are.small (sym list.spelled ∙ are.spelled)) list.distinct

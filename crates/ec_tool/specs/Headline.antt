@@ -1,7 +1,7 @@
 -- The promise of the tool: a run does what its words ask for, by the codes of the profile and the files that are there.
 -- Source: this project, after ceph-erasure-code-tool.
--- Read first: Words.antt (what the words ask for), Chunks.antt and Runs.antt (what encoding and decoding come to), Outcomes.antt
--- (refusals and failures), Texts.antt (lines).
+-- Read first: Words.antt (what the words ask for), Outcomes.antt (refusals), Texts.antt (lines), and of ec_files Chunks.antt and
+-- Runs.antt (what encoding and decoding come to) and Outcomes.antt (failures).
 use Rattle.std.specs.Prelude.{◌≡◌, ◌⊎◌, ℕ, List, Option}
 use Rattle.ec_files.specs.Files.{FileMap}
 use Rattle.ec_tool.specs.Outcomes.{Shows, Codes}

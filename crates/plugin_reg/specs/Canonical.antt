@@ -85,7 +85,7 @@ settings_by plugin.Jerasure p k n = jerasure_settings k (n - k) (least_of p.min_
 settings_by plugin.Lrc p k n = lrc_settings (has_number p) p (least_of p.min_size k n)
 settings_by plugin.Shec p k n = shec_settings (value_or 0 p.c) k (n - k) (least_of p.min_size k n) p.stripe_unit
 
--- each byte of a text passes a test; of a text of more than 16 characters, which isn't kept whole, nothing is said
+-- each byte of a text passes a test. A text of more than 16 characters is not kept whole, and nothing is said of it
 abbrev pub IsWrittenIn : (ℕ → Bool) → List ℕ → Type 0
 IsWrittenIn test text = length text ≤ 16 → list_all test text ≡ true
 
@@ -94,7 +94,7 @@ pub record HasMarks (p : Profile) : Type 0 where
   pub mapping : (m : Mapping) → p.mapping ≡ Some m → IsWrittenIn is_place (mapping_text m)
   pub layers : (ls : Layers) → p.layers ≡ Some ls → (i : ℕ) → i < length (layer_texts ls) → IsWrittenIn is_mark (layer_text (layer_texts ls) i)
 
--- a profile can be written as lines: where its mapping and its layers count, they have their marks alone
+-- a profile can be written as lines: if its mapping and its layers count, they have their marks alone
 abbrev pub IsWritable : Profile → Type 0
 IsWritable p = p.plugin ≡ plugin.Lrc → has_number p ≡ false → HasMarks p
 

@@ -11,6 +11,6 @@ LinesAreReadBack =
     (k m least unit : ℕ) → k < 2 ^ 32 → m < 2 ^ 32 → least < 2 ^ 32 → unit < 2 ^ 32
     → profile_of (lines_of (jerasure_settings k m least unit)) ≡ Ok (jerasure_profile k m least unit)
 
--- each profile that is read has its marks alone in its mapping and its layers, where they count
+-- each profile that is read has its marks alone in its mapping and its layers, if they count
 abbrev pub ReadProfilesAreWritable : Type 0
 ReadProfilesAreWritable = (bytes : List ℕ) (p : Profile) → profile_of_bytes bytes ≡ Ok p → IsWritable p

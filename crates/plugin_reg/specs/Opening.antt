@@ -21,6 +21,6 @@ abbrev pub key_field : Option (List ℕ) → List ℕ
 key_field (Some key) = 32 ∷ key
 key_field None = []
 
--- `profile NUMBER NAME`, and the key where the fault carries one
+-- `profile NUMBER NAME`, and the key if the fault carries one
 abbrev pub fault_line : ProfileFault → List ℕ
 fault_line f = codes "profile " ++ (decimal (number_of f) ++ 32 ∷ (fault_name_of f ++ (key_field (carried_key f) ++ 10 ∷ [])))

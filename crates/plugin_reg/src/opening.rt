@@ -40,7 +40,7 @@ pub fn open_profile(
     }
 }
 
-/// The line of a fault: `profile NUMBER NAME`, and the key where it carries one.
+/// The line of a fault: `profile NUMBER NAME`, and the key if it carries one.
 pub fn print_fault(alloc: Global, fault: &ProfileFault) -> Result<Bytes, NoMemory>
     ensures { IfOk result (λ text. text ≡ fault_line fault.now) }
 {

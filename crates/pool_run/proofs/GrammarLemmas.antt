@@ -1,4 +1,4 @@
--- A text spells a command exactly where that command is read from it.
+-- A text spells a command exactly if that command is read from it.
 use Rattle.std.proofs.Common.{◌≡◌, ◌≢◌, ℕ, ◌%◌, ◌≤◌, ◌==◌, ◌&&◌, Bool, true, false, not, cond, refl, sym, ap, subst, ◌∙◌, List, [], ◌∷◌, ◌++◌, length, Option, Some, None, Result, Ok, Err, append-nil, arith}
 use Rattle.std.specs.Prelude.{codes, nat_le, bytes_eq, IsTrue}
 use Rattle.std.specs.List.{list_all, join_with_byte, AllByRecursion}

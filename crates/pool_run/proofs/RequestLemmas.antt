@@ -1,4 +1,4 @@
--- What the words ask for, where they are known.
+-- What the words ask for, if they are known.
 use Rattle.std.proofs.Common.{◌≡◌, ℕ, List, [], ◌∷◌, ◌≤◌, length, Option, Some, inl, inr, ap, sym, ◌∙◌, arith}
 use Rattle.std.specs.Prelude.{codes}
 use Rattle.pool_run.specs.Profiles.{AsksToShow, AsksFor, HasFault, NeedsNoInput}
@@ -43,7 +43,7 @@ input_for words left b ask (inl is) = absurd (not_both words b whole_input is as
 input_for words left b ask (inr (inl is)) = absurd (is.1 (same_profile words b whole_input is.0 ask))
 input_for words left b ask (inr (inr is)) = (is.1, is.2)
 
--- what the words ask for, where their profile needs no input
+-- what the words ask for, if their profile needs no input
 
 pub wrong_needs : (words : Words) (a : List ℕ) → AreWrong words → NeedsNoInput words a → ⊥
 wrong_needs words a wrong (inl is) = (wrong a).1 is.0

@@ -18,7 +18,7 @@ all_taken before now script input told reads = taken now (subst (λ (b : Option 
   taken None consumed ended = absurd consumed
   taken (Some rest) consumed ended = sym (consumed ∙ ap (λ r. input ++ r) ended ∙ append-nil input)
 
--- where more than the limit was taken, the script is longer
+-- if more than the limit was taken, the script is longer
 pub longer : (before now : Option (List ℕ)) (script : List ℕ) → before ≡ Some script → HadMore before now → max_input < length script
 longer before now script told more = taken now (subst (λ (b : Option (List ℕ)). Consumes b now more.0) told more.1) where
   taken : (rest : Option (List ℕ)) → Consumes (Some script) rest more.0 → max_input < length script
@@ -108,7 +108,7 @@ nothing_said script status before left one = record {
   not_long (inr (inl e)) f = omega arith
   not_long (inr (inr e)) f = e
 
--- the input was too long, and that was said, or some of it where the output failed
+-- the input was too long, and that was said, or some of it if the output failed
 pub too_long_said : (script : List ℕ) (status : ℕ) (before now left_before left : Option (List ℕ)) → left_before ≡ Some script → HadMore left_before left
     → OneOf status (12 ∷ 9 ∷ []) → (status ≢ 9 → Appends before now too_long_line) → SaysFront before now too_long_line → IsAnswered script status before now left
 too_long_said script status before now left_before left told more one said front = record {
@@ -161,7 +161,7 @@ by_tests : (script : List ℕ) (long all : Bool) → nat_lt max_input (length sc
     → status_of script ≡ (if long then 12 else if all then 0 else 1)
 by_tests script long all l a = ap (λ b. if b then 12 else if list_all is_good (replies_to script) then 0 else 1) l ∙ ap (λ b. if long then 12 else if b then 0 else 1) a
 
--- where neither input nor output failed, the script tells the status
+-- if neither input nor output failed, the script tells the status
 pub completed : (script : List ℕ) (status : ℕ) (before now left : Option (List ℕ)) → IsAnswered script status before now left
     → OneOf status (0 ∷ 1 ∷ 8 ∷ 9 ∷ 12 ∷ 13 ∷ []) → (status ≡ 8 → ⊥) → (status ≡ 9 → ⊥) → OneOf status (status_of script ∷ 13 ∷ [])
 completed script status before now left is (inl e) not_8 not_9 =
@@ -191,7 +191,7 @@ long_script script status before now left is one = record {
   come (inr (inr (inr (inr (inr (inl e)))))) long = inr (inr (inr (inl e)))
   come (inr (inr (inr (inr (inr (inr e)))))) long = absurd e
 
--- where the words are a command, their status is not 2
+-- if the words are a command, their status is not 2
 pub not_2 : (cause : Type 0) (status : ℕ) (before now : Option (List ℕ)) → (cause → ⊥) → (status ≡ 2 → ⊥) → SaysItsLine cause 2 before now status
 not_2 cause status before now never other = record {
   only = λ e. absurd (other e);

@@ -59,7 +59,7 @@ mask_of_all chunks n all p = (λ has. (all p).1 (below has), λ here. bit_at_one
 pub mask_below : (chunks : List (Option (List ℕ))) (n : ℕ) → HaveChunksBelow chunks n → HaveMaskBelow chunks n
 mask_below chunks n all = record { mask = 2 ^ n - 1; is_theirs = mask_of_all chunks n all; below = omega (arith, pow_pos n) }
 
--- all positions decide the data positions, which are among them
+-- all positions decide the data positions, since these are among them
 pub data_decided : (code : CodeRows) (chunks : List (Option (List ℕ))) → IsCode code → HaveChunksBelow chunks code.n → DecideData code chunks
 data_decided code chunks is all = record {
   mask = 2 ^ code.n - 1;

@@ -6,7 +6,7 @@ use Rattle.ec_words.specs.Fields.{optional_field}
 use Rattle.ec_words.specs.HexText.{SpellsBytes}
 use Rattle.ec_words.specs.Names.{is_name}
 
--- `full NAME HEX`, where HEX spells the bytes and is left out where there are none
+-- `full NAME HEX`: HEX spells the bytes and is left out if the object is empty
 pub record SpellsFull (text name bytes : List ℕ) : Type 0 where
   pub is_name : IsTrue (is_name name)
   pub digits : List ℕ

@@ -5,7 +5,7 @@ use Rattle.pool_run.specs.Grammar.{Spells}
 use Rattle.pool_run.specs.Lines.{command_of}
 use Rattle.pool_run.specs.Pieces.{Piece, AreWholeAndAPart}
 
--- a text spells a command exactly where that command is read from it
+-- a text spells a command exactly if that command is read from it
 abbrev pub LinesAreSpelled : Type 0
 LinesAreSpelled = (text : List ℕ) (command : Command) → Spells text command ↔ (command_of text ≡ Some command)
 

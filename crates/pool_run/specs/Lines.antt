@@ -19,7 +19,7 @@ is_kept (first ∷ rest) = not (first == 35)
 abbrev pub kept_lines : List ℕ → List (List ℕ)
 kept_lines script = filter is_kept (slice_split (λ b. b == 10) script)
 
--- `full`, where the digits spell bytes
+-- `full`, if the digits spell bytes
 abbrev pub full_of : List ℕ → Result (List ℕ) FromHexError → Option Command
 full_of name (Ok bytes) = Some (Updates (Full name bytes))
 full_of name (Err fault) = None

@@ -24,7 +24,7 @@ abbrev pub first_text : List Piece → List ℕ
 first_text [] = []
 first_text (piece ∷ pieces) = piece_text piece
 
--- some first bytes of pieces are some whole ones, and a part of the next one, which is nothing or not all of it
+-- some first bytes of pieces are some whole ones, and a part of the next one: nothing, or not all of it
 pub record AreWholeAndAPart (pieces : List Piece) (bytes : ℕ) : Type 0 where
   pub count : ℕ
   pub part : ℕ

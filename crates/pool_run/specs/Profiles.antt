@@ -28,7 +28,7 @@ rows_text code = flat_map (row_line code) (range_with_len 0 code.n)
 abbrev pub profile_text : Profile → CodeRows → List ℕ
 profile_text p code = canonical_lines p code.k code.n ++ rows_text code
 
--- the words, and the input where they ask for it, ask for the profile of this text to be shown
+-- the words, and the input if they ask for it, ask for the profile of this text to be shown
 abbrev pub AsksToShow : Words → Option (List ℕ) → List ℕ → Type 0
 AsksToShow words left text =
     (AskProfile words text × (text ≢ whole_input))
@@ -46,18 +46,18 @@ IsAskedFor words before now text = AskTry words text ⊎ AskProfile words text �
 abbrev pub HasFault : List ℕ → Type 0
 HasFault text = (f : ProfileFault) × IsRefused text f
 
--- the profile is a word, which is to be shown or has a fault, so that no input is needed
+-- the profile is a word that is to be shown or has a fault, so no input is needed
 abbrev pub NeedsNoInput : Words → List ℕ → Type 0
 NeedsNoInput words text = (AskProfile words text × (text ≢ whole_input)) ⊎ (AskTry words text × HasFault text)
 
--- an accepted profile was shown with status 0, and else not at all or in part; where the input failed or memory ran out, not at all
+-- an accepted profile was shown with status 0, and else not at all or in part; if the input failed or memory ran out, not at all
 pub record ShowsProfile (p : Profile) (status : ℕ) (before now : Option (List ℕ)) : Type 0 where
   pub statuses : OneOf status (0 ∷ 8 ∷ 9 ∷ 13 ∷ [])
   pub whole : status ≡ 0 → (code : CodeRows) × IsCodeOf p code × Appends before now (profile_text p code)
   pub part : status ≢ 0 → Appends before now [] ⊎ ((code : CodeRows) × IsCodeOf p code × SaysFront before now (profile_text p code))
   pub unsaid : OneOf status (8 ∷ 13 ∷ []) → Appends before now []
 
--- a text was refused: the line of its fault was said, some first bytes of it where the output failed, and nothing where the input
+-- a text was refused: the line of its fault was said, some first bytes of it if the output failed, and nothing if the input
 -- failed or memory ran out
 pub record SaysFault (text : List ℕ) (status : ℕ) (before now : Option (List ℕ)) : Type 0 where
   pub statuses : OneOf status (3 ∷ 8 ∷ 9 ∷ 13 ∷ [])

@@ -83,7 +83,7 @@ answer_to_line serving objects LongLine = TooLong
 answer_to_line serving objects BadLine = Replied Bad
 answer_to_line serving objects (Client command) = answer_to_client serving objects command
 
--- the objects after a client's command: they change only where the pool serves
+-- the objects after a client's command: they change only if the pool serves
 abbrev pub objects_after_client : Serving → Objects → Command → Objects
 objects_after_client Serves objects command = apply_command objects command
 objects_after_client (IsShort joined min) objects command = objects
@@ -118,7 +118,7 @@ is_good TooLong = false
 is_good (Short joined min) = false
 is_good (Down epoch slots) = false
 
--- a line for objects in memory, which always serve
+-- a line for objects in memory. These always serve
 abbrev pub served_line : List ℕ → Serving × ScriptLine
 served_line text = (Serves, script_line text)
 

@@ -41,7 +41,7 @@ pub record IsStored (code : CodeRows) (unit : ℕ) (bytes : List ℕ) (stored : 
 abbrev pub StoredObjects : Type 0
 StoredObjects = map.FinMap (slice_cmp nat_cmp) Stored
 
--- an object that may be there is kept where it is there, and only there. It has no attributes: no line sets one so far
+-- an object that may be there is kept exactly if it is there. It has no attributes: no line sets one so far
 abbrev pub IsKept : CodeRows → ℕ → Option Object → Option Stored → Type 0
 IsKept code unit (Some object) (Some stored) = IsStored code unit object.bytes stored × (object.attrs ≡ map.empty)
 IsKept code unit None None = ⊤
@@ -57,6 +57,6 @@ pub record HaveRoom (objects : Objects) (len : ℕ) : Type 0 where
   pub few : map.len objects < max_objects
   pub light : usage objects + len ≤ max_usage
 
--- the bytes of an object, where it is there
+-- the bytes of an object, if it is there
 abbrev pub bytes_at : Objects → List ℕ → Option (List ℕ)
 bytes_at objects name = option_map (λ o. o.bytes) (map.get objects name)

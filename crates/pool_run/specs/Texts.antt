@@ -21,12 +21,12 @@ line_of status =
     else if status == 12 then too_long_line
     else []
 
--- a status comes only for its cause, and where the cause holds it comes, or one of those that go before it
+-- a status comes only for its cause, and if the cause holds it comes, or one of those that go before it
 pub record ComesFor (cause : Type 0) (status : ℕ) (before : List ℕ) (ended : ℕ) : Type 0 where
   pub only : ended ≡ status → cause
   pub comes : cause → OneOf ended (status ∷ before)
 
--- a status comes exactly for its cause and with its line; where the output failed, some first bytes of it were said
+-- a status comes exactly for its cause and with its line; if the output failed, some first bytes of it were said
 pub record SaysItsLine (cause : Type 0) (status : ℕ) (before now : Option (List ℕ)) (ended : ℕ) : Type 0 where
   pub only : ended ≡ status → cause
   pub comes : cause → OneOf ended (status ∷ 9 ∷ [])

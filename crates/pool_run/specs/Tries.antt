@@ -32,7 +32,7 @@ pub record IsAnswered (script : List ℕ) (status : ℕ) (before now left : Opti
   pub whole : OneOf status (0 ∷ 1 ∷ []) → Appends before now (answers_text (replies_to script))
   pub within : OneOf status (0 ∷ 1 ∷ []) → length script ≤ max_input
   pub at_end : OneOf status (0 ∷ 1 ∷ []) → IsAtEnd left
-  -- status 0 where each reply begins with `ok`, and status 1 where some reply does not
+  -- status 0 if each reply begins with `ok`, and status 1 if some reply does not
   pub all_done : status ≡ 0 → list_all is_good (replies_to script) ≡ true
   pub some_refused : status ≡ 1 → list_all is_good (replies_to script) ≡ false
   -- status 8 before any reply, and status 12 with its line alone

@@ -45,7 +45,7 @@ pub fn ecpool<R: Rig, S: Source>(
     ensures shown { (profile : List ℕ) (p : _) → AsksToShow words.now (S.left source.old) profile → GivesProfile profile p
         → ShowsProfile p result.0 (R.said rig.old) (R.said rig.new) }
 
-    // A profile is refused exactly where it has a fault, by the line of its first one.
+    // A profile is refused exactly if it has a fault, by the line of its first one.
     ensures refused { (profile : List ℕ) (f : _) → AsksFor words.now (S.left source.old) profile → IsRefused profile f
         → SaysFault profile result.0 (R.said rig.old) (R.said rig.new) }
 

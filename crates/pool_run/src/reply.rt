@@ -11,7 +11,7 @@ use std::alloc::Global;
 /// The answer to a line.
 #[derive(Drop)]
 pub enum Reply {
-    /// `ok`, with the text of its second field, which is empty where there is none.
+    /// `ok`, with the text of its second field. The text is empty if there is no such field.
     Done(Bytes),
     /// `absent`: there is no such object.
     Absent,

@@ -48,7 +48,7 @@ pub fn read_input<S: Source>(alloc: Global, source: &mut S) -> Result<Vec<u8>, I
     Err(InputFault::TooLong)
 }
 
-/// Answers each line of a script, from no objects, which are kept by this code with chunks of `unit` bytes.
+/// Answers each line of a script, from no objects. Objects are kept by this code with chunks of `unit` bytes.
 pub fn run_script<R: Rig>(
     alloc: Global,
     script: &[u8],

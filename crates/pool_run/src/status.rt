@@ -1,5 +1,5 @@
 //! How the program ends.
 
-/// How the program ends: the number is its exit status, which docs/SCRIPT.md explains.
+/// How the program ends: the number is its exit status. docs/SCRIPT.md explains it.
 #[derive(Clone, Copy, Debug, PartialEq, Eq)]
 pub struct Status(pub u8);

@@ -1,4 +1,4 @@
--- What is told of a fault by what is answered.
+-- What an answer says of a fault.
 use Rattle.std.proofs.Common.{◌≡◌, Result, Err}
 use Rattle.ec_code.specs.declared.fault.ProfileFault.{ProfileFault}
 use Rattle.profile_texts.specs.declared.reading.RegFault.{RegFault}

@@ -93,7 +93,7 @@ too_many_layers vs gt = ap (λ b. cond b (each_layer (items_view vs)) None) (lt-
 pub few_layers : (vs : List Value) → length vs ≤ 16 → layers_of_items (items_view vs) ≡ each_layer (items_view vs)
 few_layers vs le = ap (λ b. cond b (each_layer (items_view vs)) None) (le-leb (items_len (items_view vs)) 16 (omega (arith, le, items_len-items_view vs)))
 
--- the layers of all values, where those before i have given some already
+-- the layers of all values, if those before i have given some already
 abbrev pub left_after : List (List ℕ) → Option (List (List ℕ)) → Option (List (List ℕ))
 left_after texts rest = option_map (λ more. texts ++ more) rest
 
@@ -120,7 +120,7 @@ module _ (vs : List Value) (i : ℕ) (d : Value) (lt : i < length vs) where
 pub all_layers : (vs : List Value) (i : ℕ) (texts : List (List ℕ)) → i ≡ length vs → left_after texts (each_layer (items_view (drop i vs))) ≡ Some texts
 all_layers vs i texts e = ap (λ l. left_after texts (each_layer (items_view l))) (drop_all i vs (omega (arith, e))) ∙ ap Some (append-nil texts)
 
--- a value that is no text gives layers where it is an array
+-- a value that is no text gives layers if it is an array
 pub layers_of_others : (d : Data) → as_str d ≡ None → layers_of_value d ≡ option_and_then layers_of_items (as_array d)
 layers_of_others null e = refl
 layers_of_others (boolean b) e = refl

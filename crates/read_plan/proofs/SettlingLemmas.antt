@@ -143,7 +143,7 @@ module _ (rows : List (List ℕ)) (q lead by needed : ℕ) (left : List (List �
   left_dot : (column : List ℕ) (p : ℕ) → p < 16 → HasPosition needed p → dot 16 (row_at left p) column ≡ bit_xor (dot 16 (row_at rows p) column) (field_product (times p) (dot 16 (row_at rows q) column))
   left_dot column p lt has = sum_dot 16 (times p) column (row_at rows p) (row_at rows q) (row_at left p) (less p lt has)
 
-  -- where row q is 0 the rows left are those before
+  -- if row q is 0 the rows left are those before
   left_same : (column : List ℕ) (p : ℕ) → p < 16 → HasPosition needed p → dot 16 (row_at rows q) column ≡ 0 → dot 16 (row_at left p) column ≡ dot 16 (row_at rows p) column
   left_same column p lt has z =
       left_dot column p lt has ∙ ap (λ t. bit_xor (dot 16 (row_at rows p) column) (field_product (times p) t)) z
