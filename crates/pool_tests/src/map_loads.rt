@@ -125,6 +125,11 @@ fn loaded_with(alloc: Global, body: &[u8]) -> Result<Result<Seen, MapFault>, Fai
     loaded(alloc, &mut rig)
 }
 
+// Whether a map with these steps is loaded so.
+fn is_loaded_as(alloc: Global, body: &str, wanted: Result<Seen, MapFault>) -> Result<bool, Fail> {
+    Ok(loaded_with(alloc, body.as_bytes())? == wanted)
+}
+
 #[test]
 fn steps_are_loaded_where_they_fit(rt: HostRuntime) -> Result<(), Fail> {
     let bad = Err(MapFault::BadMap);
@@ -164,8 +169,7 @@ fn steps_are_loaded_where_they_fit(rt: HostRuntime) -> Result<(), Fail> {
         ("\x04\x02\x02", bad),
     ];
     for (body, wanted) in rows {
-        let found = loaded_with(rt.alloc(), body.as_bytes())?;
-        assert!(rt; found == wanted, "{body:?}");
+        assert!(rt; is_loaded_as(rt.alloc(), body, wanted)?, "{body:?}");
     }
     Ok(())
 }

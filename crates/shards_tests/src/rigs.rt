@@ -96,13 +96,6 @@ fn each_pick_leaves_what_it_says(rt: HostRuntime) -> Result<(), Fail> {
         Op::Write(1, b"XY"),
         Op::Write(4, b"ef"),
     ];
-    let cut_and_grown = [
-        Op::Write(0, b"abcd"),
-        Op::Sync,
-        Op::Cut(2),
-        Op::Write(2, b"Z"),
-    ];
-    let synced = [Op::Write(0, b"abc"), Op::Cut(1), Op::Sync];
     assert!(rt;
         each_leaves(
             alloc,
@@ -123,6 +116,19 @@ fn each_pick_leaves_what_it_says(rt: HostRuntime) -> Result<(), Fail> {
             ],
         )?
     );
+    Ok(())
+}
+
+#[test]
+fn each_pick_leaves_what_it_says_of_a_cut(rt: HostRuntime) -> Result<(), Fail> {
+    let alloc = rt.alloc();
+    let cut_and_grown = [
+        Op::Write(0, b"abcd"),
+        Op::Sync,
+        Op::Cut(2),
+        Op::Write(2, b"Z"),
+    ];
+    let synced = [Op::Write(0, b"abc"), Op::Cut(1), Op::Sync];
     assert!(rt;
         each_leaves(
             alloc,
