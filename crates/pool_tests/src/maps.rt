@@ -1,9 +1,13 @@
 //! What the tests of a pool's map share.
-ghost use Rattle.std.specs.Prelude.{IfOk, OnOk};
+ghost use Rattle.std.specs.Prelude.{◌≡◌, IfOk, OnOk};
+ghost use Rattle.ec_model.specs.Codes.{CodeRows};
+ghost use Rattle.ec_code.specs.Refusals.{IsAccepted, IsCodeOf};
+ghost use Rattle.ec_code.specs.Shapes.{HasShape};
+ghost use Rattle.plugin_reg.specs.Canonical.{IsWritable};
 ghost use Rattle.pool_map.specs.Boxes.{HaveEachPlugin};
 ghost use Rattle.pool_tests.specs.Ready.{HasThree};
 
-use ec_code::Code;
+use ec_code::{Code, Profile, Shape};
 use ec_words::{Mask, Version};
 use lrc_layers::Lrc;
 use plugin_reg::{has_each_plugin, open_profile, read_profiles_are_writable};
@@ -30,6 +34,24 @@ fn boxes(alloc: Global) -> Result<Vec<Box<dyn Code>>, Fail> {
     Ok(codes)
 }
 
+/// A new pool's map, with a profile and the shape of its code.
+fn made_of<R: Rig>(
+    alloc: Global,
+    rig: &mut R,
+    profile: &Profile,
+    shape: Shape,
+) -> Result<PoolMap, MapFault>
+    requires here { R.is_here rig.old 16 }
+    requires accepted { IsAccepted profile.now }
+    requires writable { IsWritable profile.now }
+    requires shape { (code : CodeRows) × IsCodeOf profile.now code × HasShape code shape.k shape.n shape.lead }
+    requires three { shape.n ≡ 3 }
+    ensures { IfOk result (λ map. HasThree (R.is_here rig.new) (R.reads rig.new) (R.images rig.new (R.clock rig.new)) map) }
+{
+    let map = PoolMap::make(alloc, rig, profile, shape)?;
+    Ok(map)
+}
+
 /// A new pool's map by these boxes.
 fn made_with<R: Rig>(
     alloc: Global,
@@ -47,8 +69,7 @@ fn made_with<R: Rig>(
             if shape.n != 3 {
                 return Err(MapFault::BadMap);
             }
-            let map = PoolMap::make(alloc, rig, &opened.profile, shape)?;
-            Ok(map)
+            made_of(alloc, rig, &opened.profile, shape)
         }
         Err(_) => Err(MapFault::BadMap),
     }

@@ -5,7 +5,7 @@ use Rattle.pool_tests.proofs.maps.begun.Goals as goal
 pub returns : goal.returns
 returns g c = record {
   ready = record {
-    here = (c.begin.ensures.kept.others.here 16).0 c.requires.ready.here;
+    here = (c.begin.ensures.kept.on_slot.kept.here 16).0 c.requires.ready.here;
     unspent = c.in_ok-begin.ensures.stepped.unspent;
     settled = c.in_ok-begin.ensures.stepped.settled;
   };

@@ -8,7 +8,7 @@ use Rattle.pool_tests.proofs.maps.gone_alive.Goals as goal
 
 pub alive-requires-clause-ready : goal.alive-requires-clause-ready
 alive-requires-clause-ready g c = record {
-  here = (c.begin.ensures.kept.others.here 16).0 c.requires.ready.here;
+  here = (c.begin.ensures.kept.on_slot.kept.here 16).0 c.requires.ready.here;
   unspent = c.in_ok-begin.ensures.stepped.unspent;
   settled = c.in_ok-begin.ensures.stepped.settled;
 }
