@@ -15,7 +15,7 @@ use ec_words::{Intervals, Mask};
 /// Whether a pool serves, and else why it does not.
 #[derive(Clone, Copy, Debug, PartialEq, Eq)]
 pub enum State {
-    /// All is not decided, since too few of the eligible slots `up` are left of the interval of this epoch, or too few of them
+    /// The data are not decided: too few of the eligible slots `up` are left of the interval of this epoch, or too few of them
     /// hold the authoritative version.
     Down { epoch: u32, up: Mask },
     /// The slots that joined decide all, and are fewer than `min`.

@@ -6,7 +6,7 @@ use crate::{Version, take_bytes, take_u32, take_u64};
 use std::marker::Model;
 use thiserror::Error;
 
-/// A text ends before the value does that was to be read.
+/// The text ends before the value that was to be read.
 #[derive(Clone, Copy, Debug, PartialEq, Eq, Error)]
 #[error("the text ends in a value")]
 pub struct Ended;

@@ -30,7 +30,7 @@ abbrev pub TheNewestGoesAlive : Type 0
 TheNewestGoesAlive = (n : ℕ) (state : MapState) (epoch joined : ℕ) (base : Version) → IsSound n state → fits n state (Alive epoch joined base) ≡ true
     → GoesAlive state epoch joined base
 
--- an interval goes alive once: right behind an Alive step no other one fits
+-- right behind an Alive step no other one fits
 abbrev pub AliveComesOnce : Type 0
 AliveComesOnce = (n : ℕ) (state : MapState) (epoch joined : ℕ) (base : Version) (later members : ℕ) (from : Version)
     → fits n (state_after state (Alive epoch joined base)) (Alive later members from) ≡ true → ⊥

@@ -16,7 +16,7 @@ pub fn the_newest_goes_alive()
     ensures { TheNewestGoesAlive }
 {}
 
-/// An interval goes alive once.
+/// Right behind an Alive step no other one fits.
 pub fn alive_comes_once()
     ensures { AliveComesOnce }
 {}

@@ -28,7 +28,8 @@ pub fn all_slots_are_sufficient()
     ensures { AllSlotsAreSufficient }
 {}
 
-/// A change that all shards of the active epoch have is not lost by a later interval, whether it is committed or not.
+/// If each shard that is up and last started the active epoch has one head, and each later interval began with it, sufficient
+/// slots choose it: a change at that head is not lost, whether it is committed or not.
 pub fn last_accepted_is_chosen()
     ensures { LastAcceptedIsChosen }
 {}

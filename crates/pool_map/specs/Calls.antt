@@ -58,7 +58,7 @@ pub record IsMade {R : Type 0} (reads_of : R → ℕ → ℕ → Option (List �
   pub unspent : is_spent (journal_of map) ≡ false
   pub unbegun : has_begun map ≡ false
 
--- a map that was loaded: it is that of the slot's text in use; that text is no shorter than a header; no step was added
+-- a map that was loaded: it is that of the slot's text in use; that text is no shorter than a header; it has begun no interval
 pub record IsLoaded {R : Type 0} (reads_of : R → ℕ → ℕ → Option (List ℕ)) (clock_of : R → ℕ) (images_of : R → ℕ → Image → List ℕ → Type 0)
     (old new : R) (map : PoolMap) : Type 0 where
   pub held : (text : List ℕ) → told_text 16 (reads_of old 16) ≡ Some text
@@ -82,7 +82,7 @@ pub record IsNotLoaded {R T : Type 0} (is_here_of : R → ℕ → Type 0) (reads
       → (result ≡ Err map.NoPool) ⊎ (result ≡ Err map.Failed)
   pub plain : IfErr result (λ fault. (fault ≡ map.Worn) → ⊥)
 
--- a text that was read: records behind a header with these numbers; every head that the text has has these
+-- a text that was read: records behind a header with these numbers, and no other numbers make the text's header
 pub record IsRead {R : Type 0} (reads_of : R → ℕ → ℕ → Option (List ℕ)) (clock_of : R → ℕ) (images_of : R → ℕ → Image → List ℕ → Type 0)
     (old new : R) (journal : Journal) (records : List (List ℕ)) (own_k own_n own_unit : ℕ) : Type 0 where
   pub held : (text : List ℕ) → told_text 16 (reads_of old 16) ≡ Some text

@@ -9,8 +9,8 @@ use Rattle.shard_model.specs.Changes.{Settled, fits_change}
 use Rattle.shard_model.specs.Steps.{Entry, Back, Firm, Trim, Started, Partial, Put, Drop, Clear, Reset, Step, Log, Control, Recover}
 use Rattle.shard_model.specs.States.{Phase, Unbegun, phase_after, State, Logged, version_of, effect, logged, settled, fits, brought}
 
--- `base`: the objects at the version `base_version`; `past`: checkpointed entries. The base holds
--- them already; `entries`: those after it
+-- `base`: the objects at the version `base_version`; `past`: checkpointed entries, which the base holds already; `entries`: those
+-- after it
 pub record Replay : Type 0 where
   pub phase : Phase
   pub base : ShardObjects

@@ -199,7 +199,7 @@ impl Shelf {
     }
 }
 
-/// Fills `into` with the bytes of an object from `at` on, or leaves it if there are not so many.
+/// Fills `into` with the bytes of an object from `at` on, or leaves it if the object has too few.
 fn copy_object(store: &Store, name: &Name, at: u32, into: &mut [u8]) -> bool
     requires { IsAccepted (told_in store.now) }
     ensures { IsRange (object_bytes (Some store.now) name.now) at into.old into.new result }
@@ -210,7 +210,7 @@ fn copy_object(store: &Store, name: &Name, at: u32, into: &mut [u8]) -> bool
     }
 }
 
-/// Fills `into` with the bytes from `at` on, or leaves it if there are not so many.
+/// Fills `into` with the bytes from `at` on, or leaves it if they are too few.
 fn copy_range(bytes: &[u8], at: usize, into: &mut [u8]) -> bool
     ensures { IsRange (Some bytes.now) at into.old into.new result }
 {

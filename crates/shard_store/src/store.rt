@@ -134,7 +134,7 @@ impl Store {
         self.story.state()
     }
 
-    /// How many bytes the slot's text may still grow by. A record takes its body's and five more.
+    /// How many bytes the slot's text may still grow by. A record takes the bytes of its body and five more.
     pub fn room(&self) -> u64
         ensures { result ≡ room_in self.now }
     {

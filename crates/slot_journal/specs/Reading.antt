@@ -42,7 +42,7 @@ pub record OnlyReadsArea {R : Type 0} (is_here : R → ℕ → Type 0) (reads_of
   pub syncs : Adds 0 (syncs_of old slot) (syncs_of new slot)
   pub written : Adds 0 (written_of old slot) (written_of new slot)
 
--- the same with at most so many syncs. What reads give is as it was unless the call failed, for a device may drop bytes at a
+-- the same with at most `sync_count` syncs. What reads give is as it was unless the call failed, for a device may drop bytes at a
 -- failed sync; what a crash may leave is as it was all the same, and whether an area is told
 pub record SyncsAndReads {R : Type 0} (is_here : R → ℕ → Type 0) (reads_of : R → ℕ → ℕ → Option (List ℕ))
     (said_of : R → Option (List ℕ)) (clock_of : R → ℕ) (images_of : R → ℕ → Image → List ℕ → Type 0)

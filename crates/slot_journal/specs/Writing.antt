@@ -4,7 +4,7 @@ use Rattle.byteorder.specs.Endian.{big_bytes}
 use Rattle.slot_journal.specs.Header.{open_gate}
 use Rattle.slot_journal.specs.Text.{IsText, record_bytes}
 
--- the first so many bytes stay
+-- the first `at` bytes stay
 pub record KeepsFront (at : ℕ) (old new : List ℕ) : Type 0 where
   pub before : take at new ≡ take at old
   pub no_shorter : length old ≤ length new
