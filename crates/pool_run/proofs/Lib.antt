@@ -4,7 +4,6 @@ mod KeptLemmas
 mod LengthLemmas
 pub mod LineLemmas
 mod MapLemmas
-mod PieceLemmas
 mod ProfileLemmas
 mod RequestLemmas
 pub mod RoomLemmas

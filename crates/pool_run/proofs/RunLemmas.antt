@@ -14,7 +14,8 @@ use Rattle.ec_model.specs.Codes.{CodeRows}
 use Rattle.rig_disk.specs.Said.{SaysFront}
 use Rattle.rig_disk.proofs.CallerLemmas.{Appends-none, Appends-more}
 use Rattle.pool_run.specs.Lines.{command_of, commands_of, kept_lines, line_of_command}
-use Rattle.pool_run.specs.Replies.{Replied, Serves, answer_to_line, answers_text, is_done, is_good, objects_after_line, replies_in, replies_text, replies_to, reply_text, served_line}
+use Rattle.run_model.specs.Replies.{Replied, answer_to_line, in_memory, objects_after_line, replies_in}
+use Rattle.pool_run.specs.Replies.{answers_text, is_done, is_good, replies_text, replies_to, reply_text, served_line}
 use Rattle.pool_run.specs.Script.{IsRun}
 use Rattle.pool_run.specs.Stored.{StoredObjects, AreStored, HaveRoom}
 use Rattle.pool_run.specs.Texts.{OneOf, max_input}
@@ -39,11 +40,11 @@ objects_after lines = apply_lines finite.empty (commands_of lines)
 
 -- ---- objects that always serve answer as the map does
 
-answer_of_served : (objects : Objects) (command : Option Command) → answer_to_line Serves objects (line_of_command command) ≡ Replied (reply_to_line objects command)
+answer_of_served : (objects : Objects) (command : Option Command) → answer_to_line in_memory objects (line_of_command command) ≡ Replied (reply_to_line objects command)
 answer_of_served objects (Some command) = refl
 answer_of_served objects None = refl
 
-objects_of_served : (objects : Objects) (command : Option Command) → objects_after_line Serves objects (line_of_command command) ≡ apply_line objects command
+objects_of_served : (objects : Objects) (command : Option Command) → objects_after_line in_memory objects (line_of_command command) ≡ apply_line objects command
 objects_of_served objects (Some command) = refl
 objects_of_served objects None = refl
 

@@ -3,7 +3,6 @@ pub mod Ends
 pub mod Grammar
 pub mod Laws
 pub mod Lines
-pub mod Pieces
 pub mod Profiles
 pub mod Replies
 pub mod Script

@@ -1,23 +1,14 @@
 -- The lines of a script, and the command that each one gives. Source: this project.
-use Rattle.std.specs.Prelude.{◌≤◌, ℕ, Bool, false, not, ◌==◌, if◌then◌else◌, List, [], ◌∷◌, length, filter, map, codes, bytes_eq, Option, Some, None, Result, Ok, Err}
-use Rattle.std.specs.List.{slice_split}
+use Rattle.std.specs.Prelude.{◌≤◌, ℕ, not, ◌==◌, if◌then◌else◌, List, [], ◌∷◌, length, map, codes, bytes_eq, Option, Some, None, Result, Ok, Err}
 use Rattle.hex.specs.Hex.{decode_of}
 use Rattle.hex.specs.declared.error.FromHexError.{FromHexError}
 use Rattle.ec_positions.specs.Commands.{Command, Updates, Get}
 use Rattle.ec_positions.specs.Updates.{Full, bytes_given}
 use Rattle.ec_words.specs.Fields.{fields}
 use Rattle.ec_words.specs.Names.{is_name}
+pub use Rattle.run_model.specs.Scripts.{ScriptLine, BadLine, Client, is_kept, kept_lines}
 use Rattle.pool_run.specs.declared.line.Line.{Line}
 use Rattle.pool_run.specs.declared.line.Line.TheVariants.{Full as FullLine, Get as GetLine}
-
--- an empty line, and one that begins with `#`, is skipped
-abbrev pub is_kept : List ℕ → Bool
-is_kept [] = false
-is_kept (first ∷ rest) = not (first == 35)
-
--- the lines that count, without their line feeds; a last one needs none
-abbrev pub kept_lines : List ℕ → List (List ℕ)
-kept_lines script = filter is_kept (slice_split (λ b. b == 10) script)
 
 -- `full`, if the digits spell bytes
 abbrev pub full_of : List ℕ → Result (List ℕ) FromHexError → Option Command
@@ -55,13 +46,7 @@ WritesAtMost most command = length (bytes_put command) ≤ most
 abbrev pub commands_of : List (List ℕ) → List (Option Command)
 commands_of lines = map command_of lines
 
--- a line of a script: longer than a line may be, of no form, or a client's command. A script of `try` has no line of the first
--- kind, since it is shorter as a whole.
-pub data ScriptLine : Type 0 where
-  LongLine : ScriptLine
-  BadLine : ScriptLine
-  Client : (command : Command) → ScriptLine
-
+-- the line that a command is; a text that gives none has no form
 abbrev pub line_of_command : Option Command → ScriptLine
 line_of_command (Some command) = Client command
 line_of_command None = BadLine

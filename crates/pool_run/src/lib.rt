@@ -20,7 +20,7 @@ mod session;
 mod status;
 mod texts;
 
-pub use laws::{fronts_are_whole_pieces, lines_are_spelled};
+pub use laws::lines_are_spelled;
 pub use line::{Line, LineFault, read_line};
 pub use program::ecpool;
 pub use reply::{Reply, print_reply};

@@ -3,7 +3,7 @@ use Rattle.std.proofs.Common.{◌≡◌, ◌<◌, ◌+◌, ◌-◌, ℕ, suc, Li
 use Rattle.std.proofs.lemmas.Bool.{cases_lt}
 use Rattle.std.proofs.lemmas.List.{take-append-le}
 use Rattle.std.proofs.Math.Seq.{take-append-add, take-nil}
-use Rattle.pool_run.specs.Pieces.{Piece, AreWholeAndAPart, piece_text, pieces_text, first_text}
+use Rattle.run_model.specs.Pieces.{Piece, AreWholeAndAPart, piece_text, pieces_text, first_text}
 
 in_first : (piece : Piece) (pieces : List Piece) (n : ℕ) → n < length (piece_text piece) → AreWholeAndAPart (piece ∷ pieces) n
 in_first piece pieces n lt = record {

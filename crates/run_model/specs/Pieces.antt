@@ -2,7 +2,7 @@
 use Rattle.std.specs.Prelude.{◌≡◌, ◌⊎◌, ◌<◌, ℕ, List, [], ◌∷◌, ◌++◌, length, take, drop, codes}
 use Rattle.std.specs.Fmt.{decimal}
 use Rattle.std.specs.List.{flat_map}
-use Rattle.pool_run.specs.Replies.{Answer, answer_text}
+use Rattle.run_model.specs.Replies.{Answer, answer_text}
 
 -- an answer to a line, a note that a slot was lost, or the line of the run's status
 pub data Piece : Type 0 where

@@ -1,0 +1,10 @@
+pub mod Answers
+pub mod Headline
+pub mod Instants
+pub mod Items
+pub mod Laws
+pub mod Pieces
+pub mod Records
+pub mod Replies
+pub mod Scripts
+pub mod Validity
