@@ -8,11 +8,10 @@ use ec_tool::{ToolStatus, tool};
 use ec_words::NoMemory;
 use lrc_layers::Lrc;
 use plugin_reg::has_each_plugin;
+use program_edge::words;
 use rig_disk::FileRig;
 use rs_van::RsVan;
 use shec_matrix::Shec;
-use std::env;
-use std::io::ErrorKind;
 use std::process::ExitCode;
 
 /// The status if memory ran out.
@@ -23,21 +22,6 @@ const NO_PLUGIN: u8 = 70;
 
 /// The folder of the rig. Only the rig's output is used.
 const HERE: &str = ".";
-
-// The words behind the program's name. If one of them is no text the list is empty, so that the usage line is said.
-fn words(rt: &HostRuntime) -> Result<Vec<String>, NoMemory> {
-    let mut words = Vec::new(rt.alloc());
-    match env::args(rt) {
-        Ok(all) => {
-            for word in all.skip(1) {
-                words.push(word)?;
-            }
-        }
-        Err(fault) if fault.kind() == ErrorKind::OutOfMemory => return Err(NoMemory),
-        Err(_) => {}
-    }
-    Ok(words)
-}
 
 // Makes a box of each plugin, the real files and the real output, and does what the words ask for.
 fn run(rt: HostRuntime, words: &[String]) -> Result<ToolStatus, NoMemory> {

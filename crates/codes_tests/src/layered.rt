@@ -1,15 +1,9 @@
 //! Codes of profiles of lrc, and profiles that are refused.
 ghost use Rattle.std.specs.Prelude.{◌≡◌};
 
+use crate::settings::{NONE, given};
 use ec_code::{Code, Key, Layers, Mapping, Plugin, Profile, ProfileFault, Shape, row_of};
 use lrc_layers::{Lrc, layers_of_kml};
-
-/// A number in a row of a table that stands for a setting that is left out.
-const NONE: u32 = 99;
-
-fn given(n: u32) -> Option<u32> {
-    if n == NONE { None } else { Some(n) }
-}
 
 /// A profile of a mapping and layers, and of k, m, l, stripe unit and min_size.
 fn profile(mapping: Option<Mapping>, layers: Option<Layers>, numbers: [u32; 5]) -> Profile

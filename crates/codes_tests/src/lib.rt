@@ -19,6 +19,8 @@ mod plans;
 #[cfg(test)]
 mod reed_sol_van;
 #[cfg(test)]
+mod settings;
+#[cfg(test)]
 mod shingled;
 #[cfg(test)]
 mod stripes;

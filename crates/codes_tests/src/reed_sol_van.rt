@@ -1,25 +1,9 @@
 //! Codes of profiles of jerasure, and profiles that are refused.
 ghost use Rattle.std.specs.Prelude.{◌≡◌};
 
-use ec_code::{Code, Key, Plugin, Profile, ProfileFault, Shape, Technique, row_of};
+use crate::settings::{NONE, given, technique};
+use ec_code::{Code, Key, Plugin, Profile, ProfileFault, Shape, row_of};
 use rs_van::RsVan;
-
-/// A number in a row of a table that stands for a setting that is left out.
-const NONE: u32 = 99;
-
-fn given(n: u32) -> Option<u32> {
-    if n == NONE { None } else { Some(n) }
-}
-
-/// The text of a technique: 0 for none, 1 for `reed_sol_van`, 2 for `single`, else another text.
-fn technique(which: u32) -> Option<Technique> {
-    match which {
-        0 => None,
-        1 => Some(Technique::ReedSolVan),
-        2 => Some(Technique::Single),
-        _ => Some(Technique::Other),
-    }
-}
 
 /// A profile of k, m, technique, w, stripe unit and min_size.
 fn profile(numbers: [u32; 6]) -> Profile

@@ -7,11 +7,10 @@ use ec_words::NoMemory;
 use lrc_layers::Lrc;
 use plugin_reg::has_each_plugin;
 use pool_run::{Status, ecpool};
+use program_edge::words;
 use rig_disk::{FileRig, StdSource};
 use rs_van::RsVan;
 use shec_matrix::Shec;
-use std::env;
-use std::io::ErrorKind;
 use std::process::ExitCode;
 
 /// The status if memory ran out.
@@ -22,21 +21,6 @@ const NO_PLUGIN: u8 = 70;
 
 /// The folder of the slots if the words name none.
 const HERE: &str = ".";
-
-// The words behind the program's name. If one of them is no text the list is empty, so that the usage line is said.
-fn words(rt: &HostRuntime) -> Result<Vec<String>, NoMemory> {
-    let mut words = Vec::new(rt.alloc());
-    match env::args(rt) {
-        Ok(all) => {
-            for word in all.skip(1) {
-                words.push(word)?;
-            }
-        }
-        Err(fault) if fault.kind() == ErrorKind::OutOfMemory => return Err(NoMemory),
-        Err(_) => {}
-    }
-    Ok(words)
-}
 
 // Makes a box of each plugin, the real rig and the real input, and does what the words ask for.
 fn run(rt: HostRuntime, words: &[String]) -> Result<Status, NoMemory> {

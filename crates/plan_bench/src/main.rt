@@ -76,17 +76,11 @@ fn measure<R: Print + Clock>(rt: &R) -> io::Result<()> {
     Ok(())
 }
 
-fn is_asked<R: Env + Alloc>(rt: &R) -> io::Result<bool> {
-    for word in env::args(rt)?.skip(1) {
-        if word.as_str() == "measure" {
-            return Ok(true);
-        }
-    }
-    Ok(false)
-}
-
 fn main(rt: HostRuntime) -> io::Result<()> {
-    if is_asked(&rt)? {
+    if env::args(&rt)?
+        .skip(1)
+        .any(|word| word.as_str() == "measure")
+    {
         measure(&rt)?;
     }
     Ok(())

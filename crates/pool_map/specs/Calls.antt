@@ -58,12 +58,14 @@ pub record IsMade {R : Type 0} (reads_of : R → ℕ → ℕ → Option (List �
   pub unspent : is_spent (journal_of map) ≡ false
   pub unbegun : has_begun map ≡ false
 
--- a map that was loaded: it is that of the slot's text in use; that text is no shorter than a header; it has begun no interval
+-- a map that was loaded: it is that of the slot's text in use; that text is no shorter than a header; its profile is an accepted one;
+-- it has begun no interval
 pub record IsLoaded {R : Type 0} (reads_of : R → ℕ → ℕ → Option (List ℕ)) (clock_of : R → ℕ) (images_of : R → ℕ → Image → List ℕ → Type 0)
     (old new : R) (map : PoolMap) : Type 0 where
   pub held : (text : List ℕ) → told_text 16 (reads_of old 16) ≡ Some text
       → HoldsMap (reads_of new) (images_of new (clock_of new)) (journal_of map) (map_of map) text
   pub long : (text : List ℕ) → told_text 16 (reads_of old 16) ≡ Some text → 24 ≤ length text
+  pub accepted : IsAccepted (map_of map).profile
   pub settled : IsSettledWhereTold (reads_of new) (images_of new (clock_of new)) (journal_of map)
   pub unspent : is_spent (journal_of map) ≡ false
   pub unbegun : has_begun map ≡ false

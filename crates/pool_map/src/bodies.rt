@@ -2,7 +2,8 @@
 ghost use Rattle.std.specs.Prelude.{◌≡◌, ◌⊎◌, ◌≤◌, ◌++◌, ◌∷◌, ℕ, List, IfOk, IfErr, Err};
 ghost use Rattle.ec_words.specs.Readers.{IsCounted};
 ghost use Rattle.map_model.specs.States.{MapState, new_state};
-ghost use Rattle.pool_map.specs.Boxes.{HaveEachPlugin, KeepNames, IsOpened};
+ghost use Rattle.plugin_reg.specs.Boxes.{HaveEachPlugin, KeepNames};
+ghost use Rattle.pool_map.specs.Boxes.{IsOpened};
 ghost use Rattle.pool_map.specs.Maps.{PoolImage, LeadAll, IsMapOf, map_format};
 ghost use Rattle.pool_map.specs.Meanings.{state_of, image_of};
 ghost use Rattle.pool_map.specs.Steps.{step_bytes};

@@ -3,7 +3,8 @@ ghost use Rattle.std.specs.Prelude.{◌≡◌, ◌≤◌, ℕ, List, length, Som
 ghost use Rattle.rig_disk.specs.During.{Only};
 ghost use Rattle.slot_journal.specs.InUse.{told_text};
 ghost use Rattle.slot_journal.specs.Reading.{SyncsAndReadsArea};
-ghost use Rattle.pool_map.specs.Boxes.{HaveEachPlugin, KeepNames, IsOpened};
+ghost use Rattle.plugin_reg.specs.Boxes.{HaveEachPlugin, KeepNames};
+ghost use Rattle.pool_map.specs.Boxes.{IsOpened};
 ghost use Rattle.pool_map.specs.Calls.{IsLoaded, IsNotLoaded};
 ghost use Rattle.pool_map.specs.Faults.{HasMapCause};
 ghost use Rattle.pool_map.specs.Maps.{IsNoPool};

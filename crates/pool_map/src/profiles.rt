@@ -3,7 +3,8 @@ ghost use Rattle.std.specs.Prelude.{◌≡◌, ◌⊎◌, ◌≤◌, ℕ, List, 
 ghost use Rattle.ec_code.specs.JsonProfiles.{profile_of_bytes};
 ghost use Rattle.ec_code.specs.declared.profile.Profile.{Profile as Meant};
 ghost use Rattle.ec_code.specs.Shapes.{HasShape};
-ghost use Rattle.pool_map.specs.Boxes.{HaveEachPlugin, KeepNames, IsOpened};
+ghost use Rattle.plugin_reg.specs.Boxes.{HaveEachPlugin, KeepNames};
+ghost use Rattle.pool_map.specs.Boxes.{IsOpened};
 ghost use Rattle.pool_map.specs.Maps.{IsCanonical, HasNumbers};
 
 use crate::MapFault;

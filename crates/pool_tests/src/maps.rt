@@ -4,7 +4,7 @@ ghost use Rattle.ec_model.specs.Codes.{CodeRows};
 ghost use Rattle.ec_code.specs.Refusals.{IsAccepted, IsCodeOf};
 ghost use Rattle.ec_code.specs.Shapes.{HasShape};
 ghost use Rattle.plugin_reg.specs.Canonical.{IsWritable};
-ghost use Rattle.pool_map.specs.Boxes.{HaveEachPlugin};
+ghost use Rattle.plugin_reg.specs.Boxes.{HaveEachPlugin};
 ghost use Rattle.pool_tests.specs.Ready.{HasThree};
 
 use ec_code::{Code, Profile, Shape};

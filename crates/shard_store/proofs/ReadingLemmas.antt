@@ -1,5 +1,5 @@
 -- A text is steps in one way.
-use Rattle.std.proofs.Common.{◌≡◌, ◌<◌, ℕ, List, [], ◌∷◌, ◌++◌, ◌-◌, length, map, get_or, sym, ap, ◌∙◌, refl, Option, Some, arith, append_assoc}
+use Rattle.std.proofs.Common.{◌≡◌, ℕ, List, [], ◌∷◌, ◌++◌, length, sym, ap, ◌∙◌, refl, Some, arith, append_assoc}
 use Rattle.std.specs.List.{AllByRecursion}
 use Rattle.shard_model.specs.Steps.{Step}
 use Rattle.shard_model.specs.StepBytes.{step_bytes, steps_bytes, IsWritable, AreSteps, IsFirstBad}
@@ -21,21 +21,6 @@ same_steps (x ∷ xs) (y ∷ ys) p q e =
 
 pub one_reading : (text : List ℕ) (xs ys : List Step) → AreSteps text xs → AreSteps text ys → xs ≡ ys
 one_reading text xs ys p q = same_steps xs ys p.0 q.0 (sym p.1 ∙ q.1)
-
-some_same : {X : Type 0} (a b : X) → ◌≡◌ {A = Option X} (Some a) (Some b) → a ≡ b
-some_same a b e = cc
-
-head_same : {X : Type 0} (a b : X) (cs ds : List X) → a ∷ cs ≡ b ∷ ds → a ≡ b
-head_same a b cs ds e = cc
-
--- of a list of one the last is that one
-pub last_of : {X Y : Type 0} (f : X → Y) (items : List X) (n : ℕ) (copy : X) (y : Y) → map f items ≡ y ∷ [] → n ≡ length items
-    → (0 < n → ◌≡◌ {A = Option X} (Some copy) (Some (get_or items (n - 1) copy))) → f copy ≡ y
-last_of f [] n copy y e long last = absurd (omega (arith, ap length e))
-last_of f (x ∷ []) n copy y e long last =
-    let found = some_same copy (get_or (x ∷ []) (n - 1) copy) (last (omega (arith, long))) in
-    ap f (found ∙ ap (λ m. get_or (x ∷ []) (m - 1) copy) long) ∙ head_same (f x) y [] [] e
-last_of f (x ∷ z ∷ rest) n copy y e long last = absurd (omega (arith, ap length e))
 
 -- bytes of steps have no place where no step is spelled
 pub no_bad : (text : List ℕ) (steps : List Step) (at : ℕ) → AreSteps text steps → IsFirstBad text at → ⊥

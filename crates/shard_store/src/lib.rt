@@ -8,13 +8,13 @@
 //! flushed as the record `4f 00000005 07 00000002`. docs/FORMAT.md has the bytes.
 #![tactic(auto)]
 
-mod copying;
 mod fault;
 mod header;
 mod laws;
 mod loading;
 mod on_slot;
 mod shelf;
+mod spelling;
 mod store;
 mod story;
 

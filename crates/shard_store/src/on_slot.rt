@@ -23,13 +23,13 @@ impl Shelf {
     ghost use Rattle.shard_store.specs.declared.fault.StoreFault.TheVariants.{Failed as SlotFailed, Spent};
 
     /// Stages a step on a slot's store, as `stage` of [`crate::Store`] does.
-    pub fn stage(&mut self, slot: u8, step: &Step) -> Result<(), StepFault>
+    pub fn stage(&mut self, slot: u8, step: Step) -> Result<(), StepFault>
         requires slot { slot < 16 }
-        requires room { IfSome (store_at self.old slot) (HasRoomFor (step_of step.now)) }
-        ensures ok { OnOk result (ChangesAt (λ old new. Becomes old new (with_step (told_in old) (step_of step.now)))
+        requires room { IfSome (store_at self.old slot) (HasRoomFor (step_of step)) }
+        ensures ok { OnOk result (ChangesAt (λ old new. Becomes old new (with_step (told_in old) (step_of step)))
             (store_at self.old slot) (store_at self.new slot)) }
         ensures misfit { IfSome (store_at self.old slot) (λ store. (result ≡ Err StepFault.Misfit)
-            ↔ (fits (staged_shard (told_in store)).geometry (staged_shard (told_in store)).state (step_of step.now) ≡ false)) }
+            ↔ (fits (staged_shard (told_in store)).geometry (staged_shard (told_in store)).state (step_of step) ≡ false)) }
         ensures some { OnErr result (IsSome (store_at self.old slot)) }
         ensures unchanged { OnErr result (store_at self.new slot ≡ store_at self.old slot) }
         ensures others { KeepsStores self.old self.new slot }

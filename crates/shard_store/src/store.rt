@@ -155,13 +155,13 @@ impl Store {
         self.story.body().len() as u64
     }
 
-    /// Stages a step behind those that are staged already, and takes all memory that it needs. On a refusal all is as it was.
-    pub fn stage(&mut self, step: &Step) -> Result<(), StepFault>
-        requires short { length (unflushed_bytes (told_in self.old)) + length (step_bytes (step_of step.now)) ≤ max_body }
-        requires room { length (unflushed_bytes (told_in self.old)) + length (step_bytes (step_of step.now)) + prefix_len ≤ room_in self.old }
-        ensures ok { OnOk result (Becomes self.old self.new (with_step (told_in self.old) (step_of step.now))) }
+    /// Stages a step behind those that are staged already, and takes all memory that it needs. On a refusal the store is as it was.
+    pub fn stage(&mut self, step: Step) -> Result<(), StepFault>
+        requires short { length (unflushed_bytes (told_in self.old)) + length (step_bytes (step_of step)) ≤ max_body }
+        requires room { length (unflushed_bytes (told_in self.old)) + length (step_bytes (step_of step)) + prefix_len ≤ room_in self.old }
+        ensures ok { OnOk result (Becomes self.old self.new (with_step (told_in self.old) (step_of step))) }
         ensures misfit { (result ≡ Err StepFault.Misfit)
-            ↔ (fits (staged_shard (told_in self.old)).geometry (staged_shard (told_in self.old)).state (step_of step.now) ≡ false) }
+            ↔ (fits (staged_shard (told_in self.old)).geometry (staged_shard (told_in self.old)).state (step_of step) ≡ false) }
         ensures unchanged { OnErr result (self.new ≡ self.old) }
     {
         self.story.stage(step)

@@ -8,7 +8,7 @@ ghost use Rattle.shard_store.specs.Seconds.{IsAhead};
 ghost use Rattle.shard_store.specs.Stories.{fresh_shard, shard_after, AreFitting, first_steps};
 ghost use Rattle.shard_store.specs.Told.{IsAccepted, IsReplayed, IsSound, staged_shard, unflushed_bytes, all_told, with_step, all_accepted, none_staged, all_flushed};
 
-use crate::copying::copy_step;
+use crate::spelling::text_of;
 use ec_words::{Geometry, NoMemory};
 use shard_state::{ShardState, StepFault};
 use shard_steps::Step;
@@ -108,14 +108,14 @@ impl Story {
     }
 
     /// Stages a step that fits behind the staged ones, or leaves all as it was.
-    pub fn stage(&mut self, step: &Step) -> Result<(), StepFault>
-        requires { length (step_bytes (step_of step.now)) ≤ max_body }
-        ensures ok { OnOk result (self.new ≡ with_step self.old (step_of step.now)) }
+    pub fn stage(&mut self, step: Step) -> Result<(), StepFault>
+        requires { length (step_bytes (step_of step)) ≤ max_body }
+        ensures ok { OnOk result (self.new ≡ with_step self.old (step_of step)) }
         ensures misfit { (result ≡ Err StepFault.Misfit)
-            ↔ (fits (staged_shard self.old).geometry (staged_shard self.old).state (step_of step.now) ≡ false) }
+            ↔ (fits (staged_shard self.old).geometry (staged_shard self.old).state (step_of step) ≡ false) }
         ensures unchanged { OnErr result (self.new ≡ self.old) }
     {
-        if !self.is_next(step) {
+        if !self.is_next(&step) {
             return Err(StepFault::Misfit);
         }
         match self.stage_next(step) {
@@ -125,27 +125,27 @@ impl Story {
     }
 
     /// Stages a step that fits.
-    fn stage_next(&mut self, step: &Step) -> Result<(), NoMemory>
-        requires short { length (step_bytes (step_of step.now)) ≤ max_body }
-        requires fit { fits (staged_shard self.old).geometry (staged_shard self.old).state (step_of step.now) ≡ true }
-        ensures ok { OnOk result (self.new ≡ with_step self.old (step_of step.now)) }
+    fn stage_next(&mut self, step: Step) -> Result<(), NoMemory>
+        requires short { length (step_bytes (step_of step)) ≤ max_body }
+        requires fit { fits (staged_shard self.old).geometry (staged_shard self.old).state (step_of step) ≡ true }
+        ensures ok { OnOk result (self.new ≡ with_step self.old (step_of step)) }
         ensures unchanged { OnErr result (self.new ≡ self.old) }
     {
-        let (copy, text) = copy_step(self.alloc, step)?;
+        let text = text_of(self.alloc, &step)?;
         self.staged.reserve(1)?;
         self.body.reserve(text.as_slice().len())?;
         let before = self.ahead.take();
         let level = second(self.alloc, &self.state, before, &self.behind, &self.staged);
         self.behind.clear();
         let mut ahead = level?;
-        let done = ahead.apply(step);
+        let done = ahead.apply(&step);
         self.ahead = Some(ahead);
         match done {
             Ok(()) => {}
             Err(StepFault::Misfit) => unreachable!(),
             Err(StepFault::NoMemory) => return Err(NoMemory),
         }
-        match self.staged.push(copy) {
+        match self.staged.push(step) {
             Ok(()) => {}
             Err(_) => unreachable!(),
         }
@@ -209,7 +209,7 @@ pub(crate) fn first_story(alloc: Global, g: Geometry, partial: bool) -> Result<S
         Step::Started(1)
     };
     let mut story = Story::of(alloc, g, ShardState::fresh(alloc, g));
-    match story.stage(&step) {
+    match story.stage(step) {
         Ok(()) => {}
         Err(StepFault::Misfit) => unreachable!(),
         Err(StepFault::NoMemory) => return Err(NoMemory),

@@ -23,11 +23,11 @@ const MADE: u64 = 13;
 const FLUSHED: u64 = 6;
 
 /// Stages a step where its bytes may be staged.
-fn stage(alloc: Global, store: &mut Store, step: &Step) -> Result<(), StepFault>
-    requires { HasShortLists (step_of step.now) }
-    ensures { OnOk result (Becomes store.old store.new (with_step (told_in store.old) (step_of step.now))) }
+fn stage(alloc: Global, store: &mut Store, step: Step) -> Result<(), StepFault>
+    requires { HasShortLists (step_of step) }
+    ensures { OnOk result (Becomes store.old store.new (with_step (told_in store.old) (step_of step))) }
 {
-    let text = encode_steps(alloc, slice::from_ref(step))?;
+    let text = encode_steps(alloc, slice::from_ref(&step))?;
     let len = store.unflushed() + text.as_slice().len() as u64;
     if len > MAX_BODY as u64 || len + 5 > store.room() {
         return Err(StepFault::NoMemory);
@@ -42,7 +42,7 @@ fn is_begun(alloc: Global, rig: &mut MemRig, slot: u8) -> Result<bool, Fail>
 {
     rig.place(slot)?;
     let mut store = Store::make(alloc, rig, slot, GEOMETRY, 3, false)?;
-    stage(alloc, &mut store, &Step::Started(2))?;
+    stage(alloc, &mut store, Step::Started(2))?;
     store.accept();
     let pending = store.pending();
     let flushed = store.flush(rig).is_ok();
@@ -87,7 +87,7 @@ fn fill(alloc: Global, store: &mut Store, first: u8, second: u8) -> Result<(), F
     ensures { OnOk result ((store.new.journal ≡ store.old.journal) × IsAccepted (told_in store.new)) }
 {
     let step = full(alloc, first, second)?;
-    stage(alloc, store, &step)?;
+    stage(alloc, store, step)?;
     store.accept();
     Ok(())
 }
@@ -99,7 +99,7 @@ fn is_filled(alloc: Global, rig: &mut MemRig, slot: u8, first: u8, second: u8) -
 {
     let mut store = Store::load(alloc, rig, slot, GEOMETRY, 3)?;
     let step = full(alloc, first, second)?;
-    stage(alloc, &mut store, &step)?;
+    stage(alloc, &mut store, step)?;
     store.accept();
     Ok(store.flush(rig).is_ok())
 }
@@ -217,12 +217,12 @@ fn made_alone(alloc: Global, slot: u8) -> Result<Store, Fail>
 
 /// Whether `Clear` is refused. It fits a shard that is being filled alone, so it needs the step before it.
 fn refuses_clear(alloc: Global, store: &mut Store) -> bool {
-    stage(alloc, store, &Step::Clear) == Err(StepFault::Misfit)
+    stage(alloc, store, Step::Clear) == Err(StepFault::Misfit)
 }
 
 /// Whether `Clear` is staged behind the step that it needs.
 fn takes_clear(alloc: Global, store: &mut Store) -> bool {
-    stage(alloc, store, &Step::Partial).is_ok() && stage(alloc, store, &Step::Clear).is_ok()
+    stage(alloc, store, Step::Partial).is_ok() && stage(alloc, store, Step::Clear).is_ok()
 }
 
 /// Whether `Clear` is taken where it fits alone, also once the step before it was forgotten.
@@ -265,7 +265,7 @@ fn filled(alloc: Global, seq: u64, byte: u8) -> Result<Step, Fail>
 /// Stages such a step.
 fn put(alloc: Global, store: &mut Store, seq: u64, byte: u8) -> Result<(), Fail> {
     let step = filled(alloc, seq, byte)?;
-    stage(alloc, store, &step)?;
+    stage(alloc, store, step)?;
     Ok(())
 }
 
@@ -314,7 +314,7 @@ fn apply_both(alloc: Global, state: &mut ShardState) -> Result<(), Fail> {
 
 /// Three are staged and forgotten, and then two of them are taken. Whether the states are right.
 fn forgets_three(alloc: Global, store: &mut Store, plain: &mut ShardState) -> Result<bool, Fail> {
-    stage(alloc, store, &Step::Started(2))?;
+    stage(alloc, store, Step::Started(2))?;
     put_both(alloc, store)?;
     store.unstage();
     let forgotten = same(alloc, store.state(), plain)?;
@@ -363,7 +363,7 @@ fn is_started(alloc: Global, shelf: &mut Shelf, slot: u8) -> bool
     match shelf.get_mut(slot) {
         None => false,
         Some(store) => {
-            let staged = stage(alloc, store, &Step::Started(2)).is_ok();
+            let staged = stage(alloc, store, Step::Started(2)).is_ok();
             store.accept();
             staged
         }

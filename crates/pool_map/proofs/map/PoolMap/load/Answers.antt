@@ -62,6 +62,7 @@ returns-clause-ok g c =
                 (subst (λ (bs : List (List ℕ)). IsMapOf read.numbers.k read.numbers.unit map_format bs image) c.as_slice.ensures c.in_ok-state.ensures.ok);
           };
       long = own.long;
+      accepted = c.in_ok-state.ensures.ok.canonical.accepted;
       settled = own.settled;
       unspent = own.fresh.unspent;
       unbegun = search rules;

@@ -1,4 +1,4 @@
-//! Copies of steps.
+//! The bytes of a step.
 ghost use Rattle.std.specs.Prelude.{◌≡◌, ◌<◌, IfOk, true};
 ghost use Rattle.std.specs.List.{AllByRecursion};
 ghost use Rattle.shard_model.specs.StepBytes.{step_bytes, HasWords, IsName, IsWord, IsWritable, HasShortLists};
@@ -6,28 +6,18 @@ ghost use Rattle.shard_steps.specs.StepMeanings.{is_entry, step_of};
 ghost use Rattle.shard_store.specs.Fronts.{HasFront};
 
 use ec_words::{Bytes, Name, NoMemory, Version};
-use shard_steps::{Pairs, Step, StepsFault, decode_steps, encode_steps};
+use shard_steps::{Pairs, Step, encode_steps};
 use std::alloc::Global;
 use std::slice;
 
-/// A copy of a step, and its bytes.
-pub(crate) fn copy_step(alloc: Global, step: &Step) -> Result<(Step, Bytes), NoMemory>
+/// The bytes of a step.
+pub(crate) fn text_of(alloc: Global, step: &Step) -> Result<Bytes, NoMemory>
     requires { HasShortLists (step_of step.now) }
-    ensures copy { IfOk result (λ copy. step_of copy.0 ≡ step_of step.now) }
-    ensures bytes { IfOk result (λ copy. copy.1 ≡ step_bytes (step_of step.now)) }
-    ensures writable { IfOk result (λ copy. IsWritable (step_of step.now)) }
+    ensures bytes { IfOk result (λ text. text ≡ step_bytes (step_of step.now)) }
+    ensures writable { IfOk result (λ text. IsWritable (step_of step.now)) }
 {
     has_its_place(step);
-    let text = encode_steps(alloc, slice::from_ref(step))?;
-    // The text is that of one step, so only memory can be wanting.
-    match decode_steps(alloc, text.as_slice()) {
-        Err(StepsFault::NoMemory) => Err(NoMemory),
-        Err(StepsFault::BadStep { .. }) => unreachable!(),
-        Ok(steps) => match steps.into_vec().pop() {
-            None => unreachable!(),
-            Some(copy) => Ok((copy, text)),
-        },
-    }
+    encode_steps(alloc, slice::from_ref(step))
 }
 
 /// All parts of a step have their place in the bytes. It does nothing.

@@ -1,7 +1,7 @@
 use Rattle.std.proofs.Common.{drop}
 use Rattle.std.specs.List.{AllByRecursion}
 use Rattle.shard_model.specs.StepBytes.{IsName}
-use Rattle.shard_store.proofs.copying.have_names.Given as goal
+use Rattle.shard_store.proofs.spelling.have_names.Given as goal
 
 -- if those left have names, all have
 abbrev pub invariant-loop-i : goal.invariant-loop-i
