@@ -1,0 +1,9 @@
+pub mod AttrLemmas
+pub mod CheckLemmas
+pub mod FlushAllLemmas
+pub mod FlushLemmas
+pub mod ObjectLemmas
+pub mod RefuseLemmas
+pub mod SetLemmas
+pub mod SettleLemmas
+pub mod ShelfLemmas

@@ -1,0 +1,10 @@
+pub mod Checking
+pub mod Drafts
+pub mod Flushing
+pub mod Refusals
+pub mod Settling
+pub mod Shelving
+pub mod Showing
+pub mod Sizes
+pub mod Staging
+pub mod Updates
