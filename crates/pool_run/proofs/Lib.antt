@@ -1,5 +1,4 @@
 mod CommandLemmas
-mod GrammarLemmas
 mod KeptLemmas
 mod LengthLemmas
 pub mod LineLemmas

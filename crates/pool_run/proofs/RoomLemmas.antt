@@ -1,5 +1,5 @@
 -- The objects that the lines of a script make are few and small: a line is longer than what it puts.
-use Rattle.std.proofs.Common.{◌≡◌, ℕ, ◌+◌, ◌*◌, ◌≤◌, ◌==◌, Bool, true, false, cond, subst, ◌∙◌, refl, List, [], ◌∷◌, ◌++◌, length, filter, Option, Some, None, arith}
+use Rattle.std.proofs.Common.{◌≡◌, ℕ, ◌+◌, ◌*◌, ◌≤◌, ◌==◌, Bool, true, false, cond, if◌then◌else◌, subst, ◌∙◌, refl, List, [], ◌∷◌, ◌++◌, length, filter, Option, Some, None, arith}
 use Rattle.std.specs.FinMap as map
 use Rattle.std.specs.Ordering.{nat_cmp}
 use Rattle.std.specs.Cmp.Lexicographic.{slice_cmp}
@@ -7,14 +7,15 @@ use Rattle.std.specs.List.{slice_split, onto_first}
 use Rattle.ec_positions.specs.Objects.{Object, Objects, usage}
 use Rattle.ec_positions.specs.Updates.{Append, WriteAt, Full, Delete, SetAttr, RemoveAttr, after}
 use Rattle.ec_positions.specs.Refusals.{Refusal}
-use Rattle.ec_positions.specs.Commands.{Command, Updates, Get, GetAttr, Stat, ListObjects, Flush, Scrub, apply_command, apply_line, apply_lines, unless_refused}
+use Rattle.ec_positions.specs.Commands.{Updates, Get, GetAttr, Stat, ListObjects, Flush, Scrub, apply_line, apply_lines, unless_refused}
 use Rattle.ec_positions.proofs.CallerLemmas.{full_count, full_usage, no_usage}
-use Rattle.pool_run.specs.Grammar.{Spells}
-use Rattle.pool_run.specs.Lines.{bytes_put, is_kept, kept_lines, command_of, commands_of}
+use Rattle.ec_words.specs.Fields.{fields}
+use Rattle.run_model.specs.Grammar.{Spells}
+use Rattle.run_model.specs.Scripts.{LongLine}
+use Rattle.pool_run.specs.Lines.{ScriptLine, BadLine, Client, Operator, AskState, bytes_put, command_in, is_kept, is_served, kept_lines, line_of_fields, script_line, command_of, commands_of}
 use Rattle.pool_run.specs.Stored.{HaveRoom}
 use Rattle.pool_run.specs.Texts.{max_input}
-use Rattle.pool_run.proofs.GrammarLemmas.{read_is_spelled}
-use Rattle.pool_run.proofs.LengthLemmas.{spelled_puts}
+use Rattle.pool_run.proofs.LengthLemmas.{line_puts, never, spelled_puts, spells_served}
 
 -- lines take their bytes, and a line feed each
 abbrev weight : List (List ℕ) → ℕ
@@ -53,31 +54,39 @@ either : (P : Objects → Type 0) (why : Option Refusal) (one other : Objects) �
 either P None one other is also = is
 either P (Some why) one other is also = also
 
-command_load : (objects : Objects) (text : List ℕ) (command : Command) → Spells text command → load (apply_command objects command) ≤ load objects + (length text + 1)
-command_load objects text (Updates (Full name bytes)) s =
-    let puts = spelled_puts text (Updates (Full name bytes)) s in
+line_load : (objects : Objects) (text : List ℕ) (line : ScriptLine) → is_served line ≡ true → Spells text line
+    → load (apply_line objects (command_in line)) ≤ load objects + (length text + 1)
+line_load objects text (Client (Updates (Full name bytes))) served s =
+    let puts = spelled_puts text (Client (Updates (Full name bytes))) s in
     either (λ now. load now ≤ load objects + (length text + 1)) _ (after objects (Full name bytes)) objects
     (omega (arith, full_count objects name bytes, full_usage objects name bytes, puts)) (omega arith)
-command_load objects text (Get name) s = either (λ now. load now ≤ load objects + (length text + 1)) _ objects objects (omega arith) (omega arith)
-command_load objects text (Updates (Append name bytes)) s = absurd s
-command_load objects text (Updates (WriteAt name off bytes)) s = absurd s
-command_load objects text (Updates (Delete name)) s = absurd s
-command_load objects text (Updates (SetAttr name attr value)) s = absurd s
-command_load objects text (Updates (RemoveAttr name attr)) s = absurd s
-command_load objects text (GetAttr name attr) s = absurd s
-command_load objects text (Stat name) s = absurd s
-command_load objects text ListObjects s = absurd s
-command_load objects text Flush s = absurd s
-command_load objects text (Scrub name) s = absurd s
+line_load objects text (Client (Get name)) served s = either (λ now. load now ≤ load objects + (length text + 1)) _ objects objects (omega arith) (omega arith)
+line_load objects text LongLine served s = never served
+line_load objects text BadLine served s = never served
+line_load objects text (Client (Updates (Append name bytes))) served s = never served
+line_load objects text (Client (Updates (WriteAt name off bytes))) served s = never served
+line_load objects text (Client (Updates (Delete name))) served s = never served
+line_load objects text (Client (Updates (SetAttr name attr value))) served s = never served
+line_load objects text (Client (Updates (RemoveAttr name attr))) served s = never served
+line_load objects text (Client (GetAttr name attr)) served s = never served
+line_load objects text (Client (Stat name)) served s = never served
+line_load objects text (Client ListObjects) served s = never served
+line_load objects text (Client Flush) served s = never served
+line_load objects text (Client (Scrub name)) served s = never served
+line_load objects text (Operator operation) served s = never served
+line_load objects text AskState served s = never served
 
-line_load : (objects : Objects) (text : List ℕ) (command : Option Command) → command_of text ≡ command → load (apply_line objects command) ≤ load objects + (length text + 1)
-line_load objects text None e = omega arith
-line_load objects text (Some command) e = command_load objects text command (read_is_spelled text command e)
+load_if : (objects : Objects) (text : List ℕ) (served : Bool) → is_served (line_of_fields (fields text)) ≡ served
+    → load (apply_line objects (command_in (if served then line_of_fields (fields text) else BadLine))) ≤ load objects + (length text + 1)
+load_if objects text true is = line_load objects text (line_of_fields (fields text)) is (spells_served text is)
+load_if objects text false is = omega arith
 
 lines_load : (objects : Objects) (lines : List (List ℕ)) → load (apply_lines objects (commands_of lines)) ≤ load objects + weight lines
 lines_load objects [] = omega arith
 lines_load objects (line ∷ lines) =
-    omega (arith, line_load objects line (command_of line) refl, lines_load (apply_line objects (command_of line)) lines)
+    let one : load (apply_line objects (command_of line)) ≤ load objects + (length line + 1) =
+    load_if objects line (is_served (line_of_fields (fields line))) refl in
+    omega (arith, one, lines_load (apply_line objects (command_of line)) lines)
 
 -- the objects that some lines of a script left have room for the next one
 pub room_for_line : (script : List ℕ) (lines more : List (List ℕ)) (x : List ℕ) → kept_lines script ≡ lines ++ x ∷ more → length script ≤ max_input
@@ -94,9 +103,9 @@ room_for_line script lines more x is within =
       light = omega (arith, all, parts, so_far, none, no_usage);
     }
 
--- a line puts less than its bytes
-pub line_room : (objects : Objects) (text : List ℕ) (command : Command) → command_of text ≡ Some command → HaveRoom objects (length text)
-    → HaveRoom objects (length (bytes_put command))
-line_room objects text command read room =
-    let puts = spelled_puts text command (read_is_spelled text command read) in
+-- a line puts no more than its bytes
+pub line_room : (objects : Objects) (text : List ℕ) (line : ScriptLine) → script_line text ≡ line → HaveRoom objects (length text)
+    → HaveRoom objects (length (bytes_put line))
+line_room objects text line read room =
+    let puts = line_puts text line read in
     record { short = omega (arith, puts, room.short); few = room.few; light = omega (arith, puts, room.light) }

@@ -1,5 +1,5 @@
 -- A script is answered line by line.
-use Rattle.std.proofs.Common.{◌≡◌, ℕ, suc, ◌+◌, ◌<◌, ◌≤◌, min, Bool, true, false, cond, ◌&&◌, List, [], ◌∷◌, ◌++◌, length, map, take, drop, get_or, refl, sym, ap, subst, ◌∙◌, Option, Some, None, Bor, append-nil, arith, inl, inr, drop-cons}
+use Rattle.std.proofs.Common.{◌≡◌, ℕ, suc, ◌+◌, ◌<◌, ◌≤◌, min, Bool, true, false, cond, if◌then◌else◌, ◌&&◌, List, [], ◌∷◌, ◌++◌, length, map, take, drop, get_or, refl, sym, ap, subst, ◌∙◌, Option, Bor, append-nil, arith, inl, inr, drop-cons}
 use Rattle.std.specs.List.{list_all}
 use Rattle.std.specs.FinMap as finite
 use Rattle.std.specs.Io.KnownBytes.{Appends}
@@ -13,13 +13,16 @@ use Rattle.ec_positions.specs.Commands.{Command, Reply, apply_line, apply_lines,
 use Rattle.ec_model.specs.Codes.{CodeRows}
 use Rattle.rig_disk.specs.Said.{SaysFront}
 use Rattle.rig_disk.proofs.CallerLemmas.{Appends-none, Appends-more}
-use Rattle.pool_run.specs.Lines.{command_of, commands_of, kept_lines, line_of_command}
+use Rattle.ec_words.specs.Fields.{fields}
+use Rattle.run_model.specs.Scripts.{LongLine}
+use Rattle.pool_run.specs.Lines.{ScriptLine, BadLine, Client, Operator, AskState, command_in, command_of, commands_of, is_served, kept_lines, line_of_fields, script_line}
 use Rattle.run_model.specs.Replies.{Replied, answer_to_line, in_memory, objects_after_line, replies_in}
 use Rattle.pool_run.specs.Replies.{answers_text, is_done, is_good, replies_text, replies_to, reply_text, served_line}
 use Rattle.pool_run.specs.Script.{IsRun}
 use Rattle.pool_run.specs.Stored.{StoredObjects, AreStored, HaveRoom}
 use Rattle.pool_run.specs.Texts.{OneOf, max_input}
 use Rattle.pool_run.proofs.KeptLemmas.{none_kept}
+use Rattle.pool_run.proofs.LengthLemmas.{never}
 use Rattle.pool_run.proofs.RoomLemmas.{room_for_line}
 
 apply_lines-append : (objects : Objects) (xs ys : List (Option Command)) → apply_lines objects (xs ++ ys) ≡ apply_lines (apply_lines objects xs) ys
@@ -40,18 +43,34 @@ objects_after lines = apply_lines finite.empty (commands_of lines)
 
 -- ---- objects that always serve answer as the map does
 
-answer_of_served : (objects : Objects) (command : Option Command) → answer_to_line in_memory objects (line_of_command command) ≡ Replied (reply_to_line objects command)
-answer_of_served objects (Some command) = refl
-answer_of_served objects None = refl
+answer_if : (objects : Objects) (line : ScriptLine) (served : Bool) → is_served line ≡ served
+    → answer_to_line in_memory objects (if served then line else BadLine) ≡ Replied (reply_to_line objects (command_in (if served then line else BadLine)))
+answer_if objects line false is = refl
+answer_if objects LongLine true is = never is
+answer_if objects BadLine true is = refl
+answer_if objects (Client command) true is = refl
+answer_if objects (Operator operation) true is = never is
+answer_if objects AskState true is = never is
 
-objects_of_served : (objects : Objects) (command : Option Command) → objects_after_line in_memory objects (line_of_command command) ≡ apply_line objects command
-objects_of_served objects (Some command) = refl
-objects_of_served objects None = refl
+objects_if : (objects : Objects) (line : ScriptLine) (served : Bool) → is_served line ≡ served
+    → objects_after_line in_memory objects (if served then line else BadLine) ≡ apply_line objects (command_in (if served then line else BadLine))
+objects_if objects line false is = refl
+objects_if objects LongLine true is = refl
+objects_if objects BadLine true is = refl
+objects_if objects (Client command) true is = refl
+objects_if objects (Operator operation) true is = refl
+objects_if objects AskState true is = refl
+
+answer_of_served : (objects : Objects) (text : List ℕ) → answer_to_line in_memory objects (script_line text) ≡ Replied (reply_to_line objects (command_of text))
+answer_of_served objects text = answer_if objects (line_of_fields (fields text)) (is_served (line_of_fields (fields text))) refl
+
+objects_of_served : (objects : Objects) (text : List ℕ) → objects_after_line in_memory objects (script_line text) ≡ apply_line objects (command_of text)
+objects_of_served objects text = objects_if objects (line_of_fields (fields text)) (is_served (line_of_fields (fields text))) refl
 
 answers_of_served : (objects : Objects) (lines : List (List ℕ)) → replies_in (map served_line lines) objects ≡ map Replied (replies_to_lines objects (commands_of lines))
 answers_of_served objects [] = refl
 answers_of_served objects (line ∷ lines) =
-    (λ i. answer_of_served objects (command_of line) i ∷ replies_in (map served_line lines) (objects_of_served objects (command_of line) i))
+    (λ i. answer_of_served objects line i ∷ replies_in (map served_line lines) (objects_of_served objects line i))
     ∙ ap (λ rs. Replied (reply_to_line objects (command_of line)) ∷ rs) (answers_of_served (apply_line objects (command_of line)) lines)
 
 text_of_replied : (rs : List Reply) → answers_text (map Replied rs) ≡ replies_text rs

@@ -1,7 +1,5 @@
 pub mod Counts
 pub mod Ends
-pub mod Grammar
-pub mod Laws
 pub mod Lines
 pub mod Profiles
 pub mod Replies

@@ -1,61 +1,64 @@
--- The lines of a script, and the command that each one gives. Source: this project.
-use Rattle.std.specs.Prelude.{◌≤◌, ℕ, not, ◌==◌, if◌then◌else◌, List, [], ◌∷◌, length, map, codes, bytes_eq, Option, Some, None, Result, Ok, Err}
-use Rattle.hex.specs.Hex.{decode_of}
-use Rattle.hex.specs.declared.error.FromHexError.{FromHexError}
-use Rattle.ec_positions.specs.Commands.{Command, Updates, Get}
-use Rattle.ec_positions.specs.Updates.{Full, bytes_given}
+-- The lines that are served so far, and the lines that the code's type stands for. Source: this project.
+-- Read first: run_model's Scripts.antt, which has all forms of lines.
+use Rattle.std.specs.Prelude.{◌≤◌, ℕ, Bool, true, false, if◌then◌else◌, List, [], length, map, Option, Some, None}
+use Rattle.ec_positions.specs.Commands.{Command, Updates, Get, GetAttr, Stat, ListObjects, Flush, Scrub}
+use Rattle.ec_positions.specs.Updates.{Append, WriteAt, Full, Delete, SetAttr, RemoveAttr, bytes_given}
 use Rattle.ec_words.specs.Fields.{fields}
-use Rattle.ec_words.specs.Names.{is_name}
-pub use Rattle.run_model.specs.Scripts.{ScriptLine, BadLine, Client, is_kept, kept_lines}
 use Rattle.pool_run.specs.declared.line.Line.{Line}
-use Rattle.pool_run.specs.declared.line.Line.TheVariants.{Full as FullLine, Get as GetLine}
+use Rattle.pool_run.specs.declared.line.Line.TheVariants as code
+pub use Rattle.run_model.specs.Scripts.{ScriptLine, BadLine, Client, Operator, AskState, MarkUp, MarkDown, Recover, Rebuild, is_kept, kept_lines, line_of_fields}
 
--- `full`, if the digits spell bytes
-abbrev pub full_of : List ℕ → Result (List ℕ) FromHexError → Option Command
-full_of name (Ok bytes) = Some (Updates (Full name bytes))
-full_of name (Err fault) = None
+-- `full` and `get` are served so far
+abbrev pub is_served : ScriptLine → Bool
+is_served (Client (Updates (Full name bytes))) = true
+is_served (Client (Get name)) = true
+is_served others = false
 
--- the command that the fields of a line give
-abbrev pub command_of_fields : List (List ℕ) → Option Command
-command_of_fields (word ∷ name ∷ []) =
-    if not (is_name name) then None
-    else if bytes_eq word (codes "get") then Some (Get name)
-    else if bytes_eq word (codes "full") then Some (Updates (Full name []))
-    else None
-command_of_fields (word ∷ name ∷ digits ∷ []) =
-    if not (bytes_eq word (codes "full")) then None
-    else if not (is_name name) then None
-    else if length digits == 0 then None
-    else full_of name (decode_of digits)
-command_of_fields others = None
+-- a line if it is served; one that is not served yet has no form
+abbrev pub if_served : ScriptLine → ScriptLine
+if_served line = if is_served line then line else BadLine
 
--- the command that a line gives, if it has one of the forms. So far these are `full` and `get`: a line of another command has none
+-- the line that a text is. A script of `try` has no line that is too long, since it is shorter as a whole
+abbrev pub script_line : List ℕ → ScriptLine
+script_line text = if_served (line_of_fields (fields text))
+
+-- the command of a line, if it is a client's
+abbrev pub command_in : ScriptLine → Option Command
+command_in (Client command) = Some command
+command_in others = None
+
 abbrev pub command_of : List ℕ → Option Command
-command_of text = command_of_fields (fields text)
-
--- the bytes that a command puts into an object
-abbrev pub bytes_put : Command → List ℕ
-bytes_put (Updates update) = bytes_given update
-bytes_put others = []
-
--- they are no more than this number
-abbrev pub WritesAtMost : ℕ → Command → Type 0
-WritesAtMost most command = length (bytes_put command) ≤ most
+command_of text = command_in (script_line text)
 
 -- those of a script's lines
 abbrev pub commands_of : List (List ℕ) → List (Option Command)
 commands_of lines = map command_of lines
 
--- the line that a command is; a text that gives none has no form
-abbrev pub line_of_command : Option Command → ScriptLine
-line_of_command (Some command) = Client command
-line_of_command None = BadLine
+-- the bytes that a line puts into an object
+abbrev pub bytes_put : ScriptLine → List ℕ
+bytes_put (Client (Updates update)) = bytes_given update
+bytes_put others = []
 
--- the line that a text between two line feeds is
-abbrev pub script_line : List ℕ → ScriptLine
-script_line text = line_of_command (command_of text)
+-- they are no more than this number
+abbrev pub WritesAtMost : ℕ → ScriptLine → Type 0
+WritesAtMost most line = length (bytes_put line) ≤ most
 
--- the command that the code's type stands for
-abbrev pub command_of_line : Line → Command
-command_of_line (FullLine name bytes) = Updates (Full name bytes)
-command_of_line (GetLine name) = Get name
+-- the line that the code's type stands for
+abbrev pub line_shown : Line → ScriptLine
+line_shown (code.Append name bytes) = Client (Updates (Append name bytes))
+line_shown (code.Write name off bytes) = Client (Updates (WriteAt name off bytes))
+line_shown (code.Full name bytes) = Client (Updates (Full name bytes))
+line_shown (code.Delete name) = Client (Updates (Delete name))
+line_shown (code.SetAttr name attr value) = Client (Updates (SetAttr name attr value))
+line_shown (code.RemoveAttr name attr) = Client (Updates (RemoveAttr name attr))
+line_shown (code.Get name) = Client (Get name)
+line_shown (code.GetAttr name attr) = Client (GetAttr name attr)
+line_shown (code.Stat name) = Client (Stat name)
+line_shown code.ListObjects = Client ListObjects
+line_shown code.Flush = Client Flush
+line_shown (code.Scrub name) = Client (Scrub name)
+line_shown (code.Up slot) = Operator (MarkUp slot)
+line_shown (code.Down slot) = Operator (MarkDown slot)
+line_shown code.Recover = Operator Recover
+line_shown (code.Rebuild slot) = Operator (Rebuild slot)
+line_shown code.Status = AskState

@@ -1,6 +1,7 @@
 -- The promise of `ecpool try`: what it says is a prefix of the replies of a map of objects, in the order of the
 -- script's lines, and then the line that belongs to its status. Source: this project.
--- Read first: ec_positions' Commands.antt (`reply_to`, `apply_command`), then Lines.antt, Replies.antt and Texts.antt beside this.
+-- Read first: ec_positions' Commands.antt (`reply_to`, `apply_command`) and run_model's Replies.antt (`replies_in`), then Lines.antt,
+-- Replies.antt and Texts.antt beside this.
 use Rattle.std.specs.Prelude.{◌≡◌, ◌≢◌, ◌<◌, ◌≤◌, nat_lt, if◌then◌else◌, ℕ, true, false, List, [], ◌∷◌, ◌++◌, length, take, Option}
 use Rattle.std.specs.List.{list_all}
 use Rattle.std.specs.Io.KnownBytes.{Appends, IsAtEnd}

@@ -7,7 +7,6 @@
 #![tactic(auto)]
 
 mod commands;
-mod laws;
 mod limits;
 mod line;
 mod object;
@@ -20,7 +19,6 @@ mod session;
 mod status;
 mod texts;
 
-pub use laws::lines_are_spelled;
 pub use line::{Line, LineFault, read_line};
 pub use program::ecpool;
 pub use reply::{Reply, print_reply};

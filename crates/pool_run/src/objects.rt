@@ -1,10 +1,10 @@
 //! The objects of a run, in memory.
-ghost use Rattle.std.specs.Prelude.{◌≡◌, ◌≤◌, length, IfOk, OnOk, OnErr};
+ghost use Rattle.std.specs.Prelude.{◌≡◌, ◌≤◌, true, length, IfOk, OnOk, OnErr};
 ghost use Rattle.std.specs.FinMap as map;
 ghost use Rattle.ec_positions.specs.Objects.{Objects as ObjectMap};
 ghost use Rattle.ec_positions.specs.Updates.{Full, after};
-ghost use Rattle.ec_positions.specs.Commands.{apply_command, reply_to};
-ghost use Rattle.pool_run.specs.Lines.{bytes_put, command_of_line, WritesAtMost};
+ghost use Rattle.ec_positions.specs.Commands.{apply_line, reply_to_line};
+ghost use Rattle.pool_run.specs.Lines.{bytes_put, command_in, is_served, line_shown, WritesAtMost};
 ghost use Rattle.pool_run.specs.Replies.{shown};
 ghost use Rattle.pool_run.specs.Stored.{AreStored, HaveRoom, bytes_at, max_object};
 
@@ -50,19 +50,20 @@ impl Objects {
         }
     }
 
-    /// Does a line and answers it. After an `Err` nothing has changed.
+    /// Does a line that is served, and answers it. After an `Err` nothing has changed.
     pub fn apply(&mut self, line: Line, code: &dyn Code, unit: u32) -> Result<Reply, NoMemory>
         requires some { 1 ≤ unit }
         requires few { unit ≤ 65536 }
-        requires within_limit { WritesAtMost max_object (command_of_line line) }
+        requires served { is_served (line_shown line) ≡ true }
+        requires within_limit { WritesAtMost max_object (line_shown line) }
         requires stored { (objects : ObjectMap) × AreStored (meaning code.now) unit objects self.old }
         ensures reply { IfOk result (λ reply. (objects : ObjectMap)
             → AreStored (meaning code.now) unit objects self.old
-            → HaveRoom objects (length (bytes_put (command_of_line line)))
-            → shown reply ≡ reply_to objects (command_of_line line)) }
+            → HaveRoom objects (length (bytes_put (line_shown line)))
+            → shown reply ≡ reply_to_line objects (command_in (line_shown line))) }
         ensures ok { OnOk result ((objects : ObjectMap) → AreStored (meaning code.now) unit objects self.old
-            → HaveRoom objects (length (bytes_put (command_of_line line)))
-            → AreStored (meaning code.now) unit (apply_command objects (command_of_line line)) self.new) }
+            → HaveRoom objects (length (bytes_put (line_shown line)))
+            → AreStored (meaning code.now) unit (apply_line objects (command_in (line_shown line))) self.new) }
         ensures unchanged { OnErr result (self.new ≡ self.old) }
     {
         match line {
@@ -74,6 +75,7 @@ impl Objects {
                 Some(bytes) => Reply::of_bytes(self.alloc, bytes.as_slice()),
                 None => Ok(Reply::Absent),
             },
+            _ => unreachable!(),
         }
     }
 

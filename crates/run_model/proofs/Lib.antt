@@ -1,6 +1,7 @@
 pub mod CallerLemmas
 mod EntryLemmas
 mod FailureLemmas
+pub mod GrammarLemmas
 mod ItemLemmas
 mod PieceLemmas
 mod SaidLemmas

@@ -1,15 +1,15 @@
 -- What a run has said is read in one way: of two pieces that differ, neither text goes on the other's.
-use Rattle.std.proofs.Common.{ℕ, ◌≡◌, ◌≢◌, ◌<◌, ◌≤◌, ◌+◌, ◌==◌, ◌⊎◌, zero, suc, min, cond, true, false, Bool, inl, inr, List, [], ◌∷◌, ◌++◌, length, map, take, drop, get_or, refl, sym, ap, subst, ◌∙◌, append_assoc, append-nil, length-append, arith}
-use Rattle.std.specs.Prelude.{codes, replicate}
+use Rattle.std.proofs.Common.{ℕ, ◌≡◌, ◌≢◌, ◌<◌, ◌==◌, ◌⊎◌, zero, suc, min, cond, inl, inr, List, [], ◌∷◌, ◌++◌, length, map, take, drop, get_or, refl, sym, ap, subst, ◌∙◌, append_assoc, append-nil, length-append, arith}
+use Rattle.std.specs.Prelude.{replicate}
 use Rattle.std.specs.Fmt.{decimal}
 use Rattle.std.specs.Str.Parse.{AllDigits}
 use Rattle.std.proofs.lemmas.Bool.{cases_eq, ne_eqb, cond-false}
 use Rattle.std.proofs.lemmas.Fmt.{decimal_is_IsNumeral, decimal_injective}
 use Rattle.std.proofs.lemmas.List.{append_cancel_left, length-take, take-append-drop}
 use Rattle.std.proofs.lemmas.Str.Parse.{digit_from_value}
-use Rattle.ec_positions.specs.Commands.{Reply, Done, Clean, Refused, Bad}
+use Rattle.ec_positions.specs.Commands.{Done, Clean, Refused, Bad}
 use Rattle.ec_positions.specs.Refusals.{Absent, NoAttr, TooLarge, TooManyObjects, TooFull, TooManyAttrs}
-use Rattle.run_model.specs.Answers.{without_notes, worn_line, too_long_line, IsLastLine, NoneYet, IsWorn, IsTooLong, IsInOrder, IsSaid, NotesAreOfSlots, IsReadAs, IsTold, AreTold}
+use Rattle.run_model.specs.Answers.{without_notes, worn_line, too_long_line, IsLastLine, NoneYet, IsWorn, IsTooLong, NotesAreOfSlots, IsReadAs, IsTold, AreTold}
 use Rattle.run_model.specs.Items.{Item, Progress, answers_in}
 use Rattle.run_model.specs.Pieces.{Piece, Answered, Note, LastLine, piece_text, pieces_text}
 use Rattle.run_model.specs.Replies.{Answer, Replied, Differs, TooLong, Short, Down, State, Failed, Unsure, answer_text}

@@ -5,7 +5,7 @@ use Rattle.std.specs.declared.option.Option.{Option}
 use Rattle.ec_positions.specs.Commands.{Done, reply_to}
 use Rattle.ec_positions.specs.Objects.{Objects}
 use Rattle.run_model.specs.Answers.{IsTold, AreTold}
-use Rattle.run_model.specs.Items.{Item, Answered, Run, Progress, answer_in, answers_in, commit_if, is_flushed_before, item_of, items_for, items_of, items_so_far, progress, script_of, with_entry, with_entries}
+use Rattle.run_model.specs.Items.{Item, Run, Progress, answer_in, answers_in, commit_if, is_flushed_before, item_of, items_for, items_of, items_so_far, progress, script_of, with_entry, with_entries}
 use Rattle.run_model.specs.Records.{RunRecord, KnownTurn, Entry, LineComes, IntervalBegins, IntervalActivates, entries}
 use Rattle.run_model.specs.Replies.{Answer, Replied, Failed, Serving, Serves, IsShort, IsDown, Standing, if_serving, answer_to_line}
 use Rattle.run_model.specs.Scripts.{ScriptLine, LongLine, BadLine, Client, Operator, AskState, MarkUp, MarkDown, Recover, Rebuild}

@@ -1,7 +1,7 @@
 -- The promise of `run`: whatever the script is and whenever the run stops, every sufficient set of slots represents the objects
 -- after the earlier commands and the first of this run's, with each that was acknowledged. Source: this project.
 -- Read first: pool_history's Histories.antt and Consistency.antt; then Items.antt, Answers.antt and Instants.antt beside this.
-use Rattle.std.specs.Prelude.{◌≡◌, ◌≤◌, ℕ, List, [], ◌∷◌, ◌++◌, length, map, take, bit_or, slice_get, Some, None}
+use Rattle.std.specs.Prelude.{◌≡◌, ◌≤◌, ℕ, List, [], ◌∷◌, ◌++◌, take, bit_or, slice_get, Some, None}
 use Rattle.std.specs.declared.option.Option.{Option}
 use Rattle.ec_model.specs.Codes.{HasPosition}
 use Rattle.ec_model.specs.Versions.{Version}
@@ -10,10 +10,10 @@ use Rattle.pool_history.specs.Choices.{Chooses, Represents}
 use Rattle.pool_history.specs.Histories.{IsInTree, IsOnPath, path_of, objects_of}
 use Rattle.pool_history.specs.Images.{StoredPool, HasShard}
 use Rattle.pool_history.specs.Consistency.{Agrees}
-use Rattle.run_model.specs.Answers.{without_notes, IsReadAs, acknowledged}
+use Rattle.run_model.specs.Answers.{IsReadAs, acknowledged}
 use Rattle.run_model.specs.Instants.{Throughout}
-use Rattle.run_model.specs.Items.{Item, Run, Progress, script_of, progress, history_after, accepted_changes, excused_by, items_of, answers_in}
-use Rattle.run_model.specs.Pieces.{Piece, Answered, pieces_text}
+use Rattle.run_model.specs.Items.{Item, Run, Progress, script_of, progress, history_after, accepted_changes, excused_by, items_of}
+use Rattle.run_model.specs.Pieces.{Piece}
 use Rattle.run_model.specs.Records.{Begun, RunRecord, KnownTurn, joined_in}
 use Rattle.run_model.specs.Scripts.{ScriptLine}
 use Rattle.run_model.specs.Validity.{Ended, IsRecordOf}
@@ -84,10 +84,3 @@ pub record IsAlwaysSafe {R I : Type 0} (clock : R → ℕ) (images : R → ℕ �
   pub known : List KnownTurn
   pub recorded : IsRecordOf run kept known ended (clock old) (clock new) (image_at (images new) reads)
   pub always : Throughout clock images old new (HasDone reads run (items_of run kept known))
-
--- a run that ended with status 0 or 1: each line of the script is answered, and the replies are those of its record
-pub record AnswersAll (run : Run) (kept : RunRecord) (known : List KnownTurn) (said : List ℕ) : Type 0 where
-  pub lines : kept.lines ≡ length (script_of run)
-  pub pieces : List Piece
-  pub bytes : said ≡ pieces_text pieces
-  pub replies : without_notes pieces ≡ map Answered (answers_in (items_of run kept known))

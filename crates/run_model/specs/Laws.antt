@@ -1,7 +1,8 @@
 -- Laws of runs. Source: this project.
-use Rattle.std.specs.Prelude.{◌≡◌, ◌≤◌, ◌+◌, slice_index_or, ℕ, List, [], ◌∷◌, ◌++◌, length, map, take, Some, None}
+use Rattle.std.specs.Prelude.{◌≡◌, ◌↔◌, ◌≤◌, ◌+◌, slice_index_or, ℕ, List, [], ◌∷◌, ◌++◌, length, map, take, Some, None}
 use Rattle.std.specs.declared.option.Option.{Option}
 use Rattle.ec_model.specs.Versions.{Version}
+use Rattle.ec_words.specs.Fields.{fields}
 use Rattle.ec_positions.specs.Commands.{Command}
 use Rattle.ec_positions.specs.Objects.{Objects}
 use Rattle.pool_history.specs.Choices.{Chooses}
@@ -9,12 +10,13 @@ use Rattle.pool_history.specs.Consistency.{Agrees}
 use Rattle.pool_history.specs.Histories.{IsTree, extended_by}
 use Rattle.pool_history.specs.Images.{StoredPool, IsStoredPool}
 use Rattle.run_model.specs.Answers.{AreTold, IsReadAs}
+use Rattle.run_model.specs.Grammar.{Spells, IsForm}
 use Rattle.run_model.specs.Headline.{ShowsAll}
 use Rattle.run_model.specs.Items.{Item, Run, Progress, start_of, after_items, history_after, all_events, fell_before, serving_by, standing_at, objects_now, answers_in, items_of, progress, with_entries, BeginsInTree}
 use Rattle.run_model.specs.Pieces.{Piece, AreWholeAndAPart}
 use Rattle.run_model.specs.Records.{Begun, Entry, KnownTurn, RunRecord, begun_of, IntervalBegins, LineComes, IntervalActivates, entries_from, entries_between}
 use Rattle.run_model.specs.Replies.{Standing, Serves, answer_to_line, in_memory, objects_after_line, objects_with, replies_in, update_in}
-use Rattle.run_model.specs.Scripts.{ScriptLine, LongLine, BadLine, Client}
+use Rattle.run_model.specs.Scripts.{ScriptLine, LongLine, BadLine, Client, line_of_fields}
 
 -- some items are first ones of others
 pub record IsFirstOf (items longer : List Item) : Type 0 where
@@ -134,3 +136,7 @@ AnswersAreTold = (run : Run) (kept : RunRecord) (known : List KnownTurn) (done r
 abbrev pub SaidIsReadOnce : Type 0
 SaidIsReadOnce = (now : Progress) (done : List Item) (said : List ℕ) (one other : List Piece) → AreTold (answers_in done)
     → IsReadAs now done said one → IsReadAs now done said other → one ≡ other
+
+-- a text spells a line, by its words, names, numbers and digits, exactly if its fields are read as that line
+abbrev pub LinesAreSpelled : Type 0
+LinesAreSpelled = (text : List ℕ) (line : ScriptLine) → IsForm line → Spells text line ↔ (line_of_fields (fields text) ≡ line)

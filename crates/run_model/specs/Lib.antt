@@ -1,8 +1,11 @@
 pub mod Answers
+pub mod Ends
+pub mod Grammar
 pub mod Headline
 pub mod Instants
 pub mod Items
 pub mod Laws
+pub mod Notes
 pub mod Pieces
 pub mod Records
 pub mod Replies

@@ -44,8 +44,7 @@ bytes_of_digits (Err fault) = None
 
 -- the bytes that a field of hexadecimal digits spells, if there are any digits
 abbrev pub bytes_in : List ℕ → Option (List ℕ)
-bytes_in [] = None
-bytes_in (first ∷ digits) = bytes_of_digits (decode_of (first ∷ digits))
+bytes_in digits = if length digits == 0 then None else bytes_of_digits (decode_of digits)
 
 -- ---- the forms, by the number of fields
 

@@ -1,5 +1,5 @@
 //! Laws about the definitions alone. Each is the contract of a function that does nothing.
-ghost use Rattle.run_model.specs.Laws.{EntriesAddItems, LinesAddEntries, TurnsAddEntries, ActivationsAddEntries, FailuresComeLater, ItemsGrowHistory, AgreementIsEnough, AnswersTellUpdates, LinesAreAnsweredInOrder, ServingPoolsAnswerAsMemory, FrontsAreWholePieces, AnswersAreTold, SaidIsReadOnce};
+ghost use Rattle.run_model.specs.Laws.{EntriesAddItems, LinesAddEntries, TurnsAddEntries, ActivationsAddEntries, FailuresComeLater, ItemsGrowHistory, AgreementIsEnough, AnswersTellUpdates, LinesAreAnsweredInOrder, ServingPoolsAnswerAsMemory, FrontsAreWholePieces, AnswersAreTold, SaidIsReadOnce, LinesAreSpelled};
 
 use pool_history::sufficient_sets_show_committed;
 
@@ -68,4 +68,9 @@ pub fn answers_are_told()
 /// What a run has said is read as one list of whole pieces, so the number of acknowledged changes is one of its bytes.
 pub fn said_is_read_once()
     ensures { SaidIsReadOnce }
+{}
+
+/// A text spells a line, by its words, names, numbers and digits, exactly if its fields are read as that line.
+pub fn lines_are_spelled()
+    ensures { LinesAreSpelled }
 {}

@@ -15,6 +15,6 @@ mod laws;
 pub use laws::{
     activations_add_entries, agreement_is_enough, answers_are_told, answers_tell_updates,
     entries_add_items, failures_come_later, fronts_are_whole_pieces, items_grow_history,
-    lines_add_entries, lines_are_answered_in_order, said_is_read_once,
+    lines_add_entries, lines_are_answered_in_order, lines_are_spelled, said_is_read_once,
     serving_pools_answer_as_memory, turns_add_entries,
 };

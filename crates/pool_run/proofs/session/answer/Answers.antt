@@ -1,6 +1,6 @@
-use Rattle.pool_run.specs.Lines.{command_of_line}
+use Rattle.pool_run.specs.Lines.{line_shown}
 use Rattle.pool_run.proofs.LengthLemmas.{line_writes}
 use Rattle.pool_run.proofs.session.answer.Goals as goal
 
 pub apply-requires-clause-within_limit : goal.apply-requires-clause-within_limit
-apply-requires-clause-within_limit g c = line_writes c.args.text.now (command_of_line c.in-Ok.line) c.in-Ok.ensures.value c.requires.within
+apply-requires-clause-within_limit g c = line_writes c.args.text.now (line_shown c.in-Ok.line) c.in-Ok.ensures.value c.requires.within
