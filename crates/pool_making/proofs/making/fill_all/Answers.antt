@@ -1,0 +1,35 @@
+use Rattle.std.proofs.Common.{◌∙◌, ap, arith, subst, inl, inr, ⊎_elim, Err}
+use Rattle.rig_disk.proofs.Moments.{at_end}
+use Rattle.slot_journal.specs.InUse.{text_in_use}
+use Rattle.pool_map.specs.Maps.{IsNoPool}
+use Rattle.pool_moves.specs.Contents.{Layout}
+use Rattle.pool_moves.proofs.MakingLemmas.{filled, filled_whole}
+use Rattle.pool_making.proofs.making.fill_all.Goals as goal
+
+pub returns-clause-made : goal.returns-clause-made
+returns-clause-made g c told image said now =
+    let l : Layout = record { geometry = record { k = c.args.g.k; unit = c.args.g.unit }; n = c.args.shape.n } in
+    filled_whole g.R.Rig.is_here g.R.Rig.reads g.R.Rig.clock g.R.Rig.images g.R.Rig.faults c.args.rig.now l (omega (arith, c.requires.few)) c.args.profile.now c.args.shape.k
+    c.make_shards.new.rig c.make.new.rig c.in-Ok.ensures.made told c.in-Ok-make.field-0 c.in-Ok-make.ensures.made c.make.ensures.any_moment image said now
+
+pub returns-clause-any_moment : goal.returns-clause-any_moment
+returns-clause-any_moment g c told none =
+    let l : Layout = record { geometry = record { k = c.args.g.k; unit = c.args.g.unit }; n = c.args.shape.n } in
+    filled g.R.Rig.is_here g.R.Rig.reads g.R.Rig.clock g.R.Rig.images g.R.Rig.faults c.args.rig.now l (omega (arith, c.requires.few)) c.args.profile.now c.args.shape.k
+    c.make_shards.new.rig c.make.new.rig c.in-Ok.ensures.made told none c.make.ensures.any_moment
+
+pub returns-in-Err-make-clause-any_moment : goal.returns-in-Err-make-clause-any_moment
+returns-in-Err-make-clause-any_moment g c told none =
+    let l : Layout = record { geometry = record { k = c.args.g.k; unit = c.args.g.unit }; n = c.args.shape.n } in
+    filled g.R.Rig.is_here g.R.Rig.reads g.R.Rig.clock g.R.Rig.images g.R.Rig.faults c.args.rig.now l (omega (arith, c.requires.few)) c.args.profile.now c.args.shape.k
+    c.make_shards.new.rig c.make.new.rig c.in-Ok.ensures.made told none c.make.ensures.any_moment
+
+pub returns-in-Err-make-clause-refused : goal.returns-in-Err-make-clause-refused
+returns-in-Err-make-clause-refused g c =
+    let old = c.args.rig.now in
+    let mid = c.make_shards.new.rig in
+    ⊎_elim (λ failed. inl failed.1)
+    (λ none_left. inr (λ none image said now. at_end g.R.Rig.clock g.R.Rig.images old mid (λ image said. IsNoPool (text_in_use 16 (image 16)))
+    (c.in-Ok.ensures.made.moments none) image said
+    (subst (λ rig. g.R.Rig.images rig (g.R.Rig.clock rig) image said) (c.make.ensures.refused (c.in-Err-make.is ∙ ap Err none_left.0)) now)))
+    c.fault_of.ensures

@@ -1,0 +1,5 @@
+pub mod ContentLemmas
+pub mod CreateLemmas
+pub mod HeldLemmas
+pub mod InstantLemmas
+pub mod MakingLemmas
