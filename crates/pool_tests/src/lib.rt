@@ -11,5 +11,3 @@ mod map_makes;
 mod map_steps;
 #[cfg(test)]
 mod maps;
-#[cfg(test)]
-mod pools;
