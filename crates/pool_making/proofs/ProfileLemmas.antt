@@ -1,5 +1,5 @@
 -- The numbers of a new pool, by its profile and its code.
-use Rattle.std.proofs.Common.{◌≡◌, ◌≤◌, ◌<◌, ⊎_elim, ℕ, Bool, true, false, subst, ◌∙◌, arith}
+use Rattle.std.proofs.Common.{◌≡◌, ◌≤◌, ⊎_elim, ℕ, Bool, true, false, subst, arith}
 use Rattle.std.proofs.lemmas.Bool.{cases_lt}
 use Rattle.ec_model.specs.Codes.{CodeRows}
 use Rattle.ec_code.specs.Bounds.{IsUnit}

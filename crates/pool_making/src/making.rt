@@ -1,5 +1,7 @@
 //! The making of a pool: its slots are placed, then their shards are made, and the map last.
 ghost use Rattle.std.specs.Prelude.{◌≡◌, ◌⊎◌, ◌≤◌, ◌<◌, ℕ, List, Some, Err, OnOk};
+ghost use Rattle.slot_journal.specs.Limits.{make_reads, make_syncs};
+ghost use Rattle.shard_store.specs.Limits.{store_bytes};
 ghost use Rattle.rig_disk.specs.Disk.{Image};
 ghost use Rattle.rig_disk.specs.During.{During};
 ghost use Rattle.ec_code.specs.Refusals.{IsAccepted, IsCodeOf};
@@ -11,6 +13,7 @@ ghost use Rattle.pool_moves.specs.Contents.{layout_of};
 ghost use Rattle.pool_moves.specs.Creating.{HasNoneOrFirst, IsCreated};
 ghost use Rattle.pool_moves.specs.Making.{ArePlaced, AreMade, AllAreTold, HaveNoPool};
 ghost use Rattle.pool_making.specs.Faults.{HasMakeCause, ExistsExactly, HasSome, LeavesNoPool};
+ghost use Rattle.pool_making.specs.Frames.{Costs, CostsOfPool, IsOfPool, KeepsOutside, SpendsBelow};
 
 use crate::fault::MakeFault;
 use ec_code::{Code, Profile, Shape};
@@ -24,7 +27,9 @@ use std::alloc::Global;
 fn place_slots<R: Rig>(rig: &mut R, n: u8) -> Result<(), MakeFault>
     requires few { n ≤ 16 }
     ensures placed { OnOk result (ArePlaced R.is_here R.reads R.clock R.images R.faults rig.old rig.new n) }
-    ensures cause { HasMakeCause (R.faults rig.old) (R.faults rig.new) result }
+    ensures cause { HasMakeCause n (R.faults rig.old) (R.faults rig.new) result }
+    ensures kept { KeepsOutside (λ s. s < n) R.is_here R.reads R.said R.syncs R.bytes_written R.bytes_read rig.old rig.new }
+    ensures costs { SpendsBelow R.syncs R.bytes_written R.bytes_read n 0 0 0 rig.old rig.new }
     ensures other { (result ≡ Err MakeFault.MapFailed → ⊥) × (result ≡ Err MakeFault.Exists → ⊥) }
     ensures any_moment { During R.clock R.images rig.old rig.new (λ image said. R.images rig.old (R.clock rig.old) image said) }
 {
@@ -43,7 +48,9 @@ fn place_all<R: Rig>(rig: &mut R, n: u8) -> Result<(), MakeFault>
     ensures placed { OnOk result (ArePlaced R.is_here R.reads R.clock R.images R.faults rig.old rig.new n) }
     ensures here { OnOk result (R.is_here rig.new 16) }
     ensures exists { ExistsExactly (R.reads rig.old 16) result }
-    ensures cause { HasMakeCause (R.faults rig.old) (R.faults rig.new) result }
+    ensures cause { HasMakeCause n (R.faults rig.old) (R.faults rig.new) result }
+    ensures kept { KeepsOutside (IsOfPool n) R.is_here R.reads R.said R.syncs R.bytes_written R.bytes_read rig.old rig.new }
+    ensures costs { Costs R.syncs R.bytes_written R.bytes_read n 0 0 0 1 0 rig.old rig.new }
     ensures any_moment { During R.clock R.images rig.old rig.new (λ image said. R.images rig.old (R.clock rig.old) image said) }
 {
     match rig.place(MAP_SLOT) {
@@ -64,7 +71,9 @@ fn make_shards<R: Rig>(alloc: Global, rig: &mut R, g: Geometry, n: u8) -> Result
     requires here { (q : ℕ) → q < n → R.is_here rig.old q }
     ensures made { OnOk result (AreMade (record { geometry = record { k = g.k; unit = g.unit }; n = n })
         R.is_here R.reads R.clock R.images R.faults rig.old rig.new n) }
-    ensures cause { HasMakeCause (R.faults rig.old) (R.faults rig.new) result }
+    ensures cause { HasMakeCause n (R.faults rig.old) (R.faults rig.new) result }
+    ensures kept { KeepsOutside (λ s. s < n) R.is_here R.reads R.said R.syncs R.bytes_written R.bytes_read rig.old rig.new }
+    ensures costs { SpendsBelow R.syncs R.bytes_written R.bytes_read n make_syncs store_bytes make_reads rig.old rig.new }
     ensures other { (result ≡ Err MakeFault.MapFailed → ⊥) × (result ≡ Err MakeFault.Exists → ⊥) }
     ensures any_moment { HaveNoPool (R.images rig.old (R.clock rig.old))
         → During R.clock R.images rig.old rig.new (λ image said. IsNoPool (text_in_use 16 (image 16))) }
@@ -106,7 +115,9 @@ fn fill_all<R: Rig>(
     ensures made { OnOk result (AllAreTold (R.reads rig.old)
         → (image : Image) (said : List ℕ) → R.images rig.new (R.clock rig.new) image said
         → IsCreated (record { geometry = record { k = g.k; unit = g.unit }; n = shape.n }) profile.now shape.k image) }
-    ensures cause { HasMakeCause (R.faults rig.old) (R.faults rig.new) result }
+    ensures cause { HasMakeCause shape.n (R.faults rig.old) (R.faults rig.new) result }
+    ensures kept { KeepsOutside (IsOfPool shape.n) R.is_here R.reads R.said R.syncs R.bytes_written R.bytes_read rig.old rig.new }
+    ensures costs { Costs R.syncs R.bytes_written R.bytes_read shape.n make_syncs store_bytes make_reads make_syncs 4062 rig.old rig.new }
     ensures refused { LeavesNoPool (R.images rig.old (R.clock rig.old)) (R.images rig.new (R.clock rig.new)) result }
     ensures other { result ≡ Err MakeFault.Exists → ⊥ }
     ensures any_moment { AllAreTold (R.reads rig.old)
@@ -139,7 +150,9 @@ fn make_slots<R: Rig>(
         → (image : Image) (said : List ℕ) → R.images rig.new (R.clock rig.new) image said
         → IsCreated (record { geometry = record { k = g.k; unit = g.unit }; n = shape.n }) profile.now shape.k image) }
     ensures exists { ExistsExactly (R.reads rig.old 16) result }
-    ensures cause { HasMakeCause (R.faults rig.old) (R.faults rig.new) result }
+    ensures cause { HasMakeCause shape.n (R.faults rig.old) (R.faults rig.new) result }
+    ensures kept { KeepsOutside (IsOfPool shape.n) R.is_here R.reads R.said R.syncs R.bytes_written R.bytes_read rig.old rig.new }
+    ensures costs { CostsOfPool R.syncs R.bytes_written R.bytes_read shape.n rig.old rig.new }
     ensures refused { LeavesNoPool (R.images rig.old (R.clock rig.old)) (R.images rig.new (R.clock rig.new)) result }
     ensures untouched { HasSome (R.reads rig.old 16)
         → During R.clock R.images rig.old rig.new (λ image said. R.images rig.old (R.clock rig.old) image said) }
@@ -183,7 +196,9 @@ pub fn make_pool<R: Rig>(
         → (image : Image) (said : List ℕ) → R.images rig.new (R.clock rig.new) image said
         → IsCreated (layout_of profile.now (meaning code.now)) profile.now (meaning code.now).k image) }
     ensures exists { ExistsExactly (R.reads rig.old 16) result }
-    ensures cause { HasMakeCause (R.faults rig.old) (R.faults rig.new) result }
+    ensures cause { HasMakeCause (meaning code.now).n (R.faults rig.old) (R.faults rig.new) result }
+    ensures kept { KeepsOutside (IsOfPool (meaning code.now).n) R.is_here R.reads R.said R.syncs R.bytes_written R.bytes_read rig.old rig.new }
+    ensures costs { CostsOfPool R.syncs R.bytes_written R.bytes_read (meaning code.now).n rig.old rig.new }
     ensures refused { LeavesNoPool (R.images rig.old (R.clock rig.old)) (R.images rig.new (R.clock rig.new)) result }
     ensures untouched { HasSome (R.reads rig.old 16)
         → During R.clock R.images rig.old rig.new (λ image said. R.images rig.old (R.clock rig.old) image said) }

@@ -11,3 +11,7 @@ mod map_makes;
 mod map_steps;
 #[cfg(test)]
 mod maps;
+#[cfg(test)]
+mod pools;
+#[cfg(test)]
+mod starts;

@@ -26,7 +26,7 @@ k=2\nm=1\nmin_size=2\nplugin=jerasure\nstripe_unit=32\ntechnique=reed_sol_van\nw
 \x02\0\0\0\x01\0\x07\x03\0\0\0\x01\0\x07\0\0\0\0\0\0\0\0\0\0\0\0\0";
 
 /// A box of each plugin.
-fn boxes(alloc: Global) -> Result<Vec<Box<dyn Code>>, Fail> {
+pub(crate) fn boxes(alloc: Global) -> Result<Vec<Box<dyn Code>>, Fail> {
     let mut codes: Vec<Box<dyn Code>> = Vec::new(alloc);
     codes.push(Box::new(alloc, RsVan::new())?)?;
     codes.push(Box::new(alloc, Lrc::new())?)?;
