@@ -11,6 +11,9 @@ use std::test::Fail;
 
 const GEOMETRY: Geometry = Geometry { k: 2, unit: 32 };
 
+// The calls on a slot that place it and make its store.
+const MADE: u64 = 13;
+
 const BASE: Version = Version { epoch: 0, seq: 0 };
 
 // The header of slot 0's text, the record of the step Started 1, that of Started 4, and a closed gate.
@@ -54,8 +57,8 @@ fn the_record_of_an_epoch_stands_behind_those_before(rt: HostRuntime) -> Result<
 #[test]
 fn a_failed_sync_is_told(rt: HostRuntime) -> Result<(), Fail> {
     let mut rig = MemRig::new(rt.alloc())?;
+    rig.fail_at(0, MADE + 1)?;
     let store = made(rt.alloc(), &mut rig)?;
-    rig.fail_at(0, 1)?;
     assert!(rt; started(&mut rig, store) == Err(StoreFault::Failed));
     Ok(())
 }

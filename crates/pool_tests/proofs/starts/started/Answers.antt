@@ -1,6 +1,8 @@
-use Rattle.std.proofs.Common.{◌≡◌, ◌<◌, ◌≤◌, ℕ, Some, ap, sym, refl, subst, ◌∙◌, false, true, arith}
+use Rattle.std.proofs.Common.{◌≡◌, ◌<◌, ◌≤◌, ℕ, ap, sym, subst, arith}
 use Rattle.shard_model.specs.States.{holds}
+use Rattle.shard_store.specs.Stored.{room_in}
 use Rattle.shard_store.specs.Told.{Told}
+use Rattle.shard_store.specs.declared.store.Store.{Store}
 use Rattle.pool_tests.proofs.starts.started.Goals as goal
 
 pub start_stored-requires-clause-may : goal.start_stored-requires-clause-may
@@ -20,4 +22,8 @@ start_stored-requires-clause-ready c store there = rw (← same) c.requires.firs
     same = cc
 
 pub start_stored-requires-clause-room : goal.start_stored-requires-clause-room
-start_stored-requires-clause-room c store there = ?
+start_stored-requires-clause-room c store there =
+    subst (λ (s : Store). 64 ≤ room_in s) same (subst (λ (n : ℕ). 64 ≤ n) c.room.ensures c.if-room-lt64.false)
+  where
+    same : c.args.store ≡ store
+    same = cc
