@@ -1,5 +1,17 @@
+pub mod ChooseLemmas
 pub mod ContentLemmas
 pub mod CreateLemmas
+pub mod DecideLemmas
 pub mod HeldLemmas
 pub mod InstantLemmas
+pub mod LoopLemmas
 pub mod MakingLemmas
+pub mod MapStepLemmas
+pub mod MaskLemmas
+pub mod NewestLemmas
+pub mod OverLemmas
+pub mod ReadyLemmas
+pub mod RecordLemmas
+pub mod RoundLemmas
+pub mod SlotLemmas
+pub mod TurnLemmas

@@ -1,6 +1,12 @@
+pub mod Choosing
 pub mod Contents
 pub mod Creating
 pub mod Instants
 pub mod Laws
 pub mod Making
 pub mod Moves
+pub mod Opening
+pub mod Ready
+pub mod Rounds
+pub mod Starting
+pub mod Turns

@@ -1,0 +1,12 @@
+use Rattle.std.proofs.Common.{◌≡◌}
+use Rattle.pool_moves.specs.Opening.{AreLoaded}
+use Rattle.pool_core.specs.Pools.{layout_of}
+use Rattle.pool_core.proofs.pool.Pool.load_slots.Given as goal
+
+abbrev pub invariant-loop-p : goal.invariant-loop-p
+invariant-loop-p g l = record {
+  map : l.self.map ≡ l.fn.self.map;
+  layout : layout_of l.self ≡ layout_of l.fn.self;
+  least : l.self.min_size ≡ l.fn.self.min_size;
+  loaded : AreLoaded (layout_of l.fn.self) g.R.Rig.is_here g.R.Rig.reads g.R.Rig.clock g.R.Rig.images l.fn.rig l.rig l.fn.self.map l.fn.self.shelf l.self.shelf l.p;
+}
