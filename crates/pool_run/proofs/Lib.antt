@@ -1,12 +1,12 @@
 mod CommandLemmas
 mod KeptLemmas
-mod LengthLemmas
 pub mod LineLemmas
 mod MapLemmas
+pub mod OverlayLemmas
 mod ProfileLemmas
 mod RequestLemmas
-pub mod RoomLemmas
 mod RunLemmas
+mod ServeLemmas
 mod StatusLemmas
 mod StoredLemmas
 mod WordLemmas

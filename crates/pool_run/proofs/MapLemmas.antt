@@ -1,5 +1,5 @@
 -- The map of an ordered list of entries.
-use Rattle.std.proofs.Common.{◌≡◌, ℕ, cond, List, [], ◌∷◌, refl, sym, ap, ◌∙◌, Some}
+use Rattle.std.proofs.Common.{◌≡◌, ℕ, cond, List, [], ◌∷◌, refl, sym, ap, ◌∙◌, Some, None}
 use Rattle.std.specs.Ordering.{nat_cmp, is_eq, eq_by_cmp}
 use Rattle.std.specs.Cmp.{eq_by_cmp_equiv}
 use Rattle.std.specs.Cmp.Lexicographic.{slice_cmp, nat_list_cmp_total}
@@ -29,3 +29,13 @@ entries-insert {V} old new k v is =
     ∙ ap (λ b. cond b (Some v) (lookup (is_at (by_name q)) old)) ((eq_by_cmp_equiv nat_list_cmp_total).symm k q)
     ∙ ap (cond (eq_by_cmp by_name q k) (Some v)) (sym (get-entries q old))
     ∙ sym (map.get-insert nat_list_cmp_total _ k v q))
+
+pub entries-remove : {V : Type 0} (old new : Entries V) (k : List ℕ)
+    → ((q : List ℕ) → lookup (is_at (by_name q)) new ≡ cond (is_at (by_name k) q) None (lookup (is_at (by_name q)) old))
+    → map.from_entries {R = by_name} new ≡ map.remove (map.from_entries old) k
+entries-remove {V} old new k is =
+    map.same_map nat_list_cmp_total (map.slice_cmp-IsAntisymmetric map.nat_cmp-IsAntisymmetric) _ _ (λ q.
+    get-entries q new ∙ is q
+    ∙ ap (λ b. cond b None (lookup (is_at (by_name q)) old)) ((eq_by_cmp_equiv nat_list_cmp_total).symm k q)
+    ∙ ap (cond (eq_by_cmp by_name q k) None) (sym (get-entries q old))
+    ∙ sym (map.get-remove nat_list_cmp_total _ k q))

@@ -19,11 +19,12 @@ use Rattle.pool_run.specs.Lines.{ScriptLine, BadLine, Client, Operator, AskState
 use Rattle.run_model.specs.Replies.{Replied, answer_to_line, in_memory, objects_after_line, replies_in}
 use Rattle.pool_run.specs.Replies.{answers_text, is_done, is_good, replies_text, replies_to, reply_text, served_line}
 use Rattle.pool_run.specs.Script.{IsRun}
-use Rattle.pool_run.specs.Stored.{StoredObjects, AreStored, HaveRoom}
-use Rattle.pool_run.specs.Texts.{OneOf, max_input}
+use Rattle.pool_run.specs.Stored.{Kept, AreStored, OfKept, nothing}
+use Rattle.pool_run.specs.Texts.{OneOf}
 use Rattle.pool_run.proofs.KeptLemmas.{none_kept}
-use Rattle.pool_run.proofs.LengthLemmas.{never}
-use Rattle.pool_run.proofs.RoomLemmas.{room_for_line}
+
+never : {X : Type 0} → false ≡ true → X
+never e = absurd (cc)
 
 apply_lines-append : (objects : Objects) (xs ys : List (Option Command)) → apply_lines objects (xs ++ ys) ≡ apply_lines (apply_lines objects xs) ys
 apply_lines-append objects [] ys = refl
@@ -93,12 +94,12 @@ good_of_script script lines is =
     ∙ ap (λ (ls : List (List ℕ)). list_all is_done (replies_from_none ls)) is
 
 -- these lines are answered so far: how what they left is kept, whether each reply begins with `ok`, and what was said
-pub record Answered (code : CodeRows) (unit : ℕ) (lines : List (List ℕ)) (stored : StoredObjects) (fine : Bool) (before now : Option (List ℕ)) : Type 0 where
+pub record Answered (code : CodeRows) (unit : ℕ) (lines : List (List ℕ)) (stored : Kept) (fine : Bool) (before now : Option (List ℕ)) : Type 0 where
   pub kept : AreStored code unit (objects_after lines) stored
   pub all_done : fine ≡ list_all is_done (replies_from_none lines)
   pub said : Appends before now (replies_text (replies_from_none lines))
 
-pub nothing_answered : (code : CodeRows) (unit : ℕ) (stored : StoredObjects) (fine : Bool) (now : Option (List ℕ)) → stored ≡ finite.empty → fine ≡ true
+pub nothing_answered : (code : CodeRows) (unit : ℕ) (stored : Kept) (fine : Bool) (now : Option (List ℕ)) → stored ≡ nothing → fine ≡ true
     → Answered code unit [] stored fine now now
 nothing_answered code unit stored fine now none fine_is = record { kept = none_kept code unit stored none; all_done = fine_is; said = Appends-none now }
 
@@ -119,26 +120,21 @@ replies_text-push rs r = flat_map-append reply_text rs (r ∷ []) ∙ ap (λ t. 
 list_all-push : (rs : List Reply) (r : Reply) → list_all is_done (rs ++ r ∷ []) ≡ (list_all is_done rs && is_done r)
 list_all-push rs r = list_all-append is_done rs (r ∷ []) ∙ ap (λ b. list_all is_done rs && b) (and-true (is_done r))
 
--- what holds of each map of objects that is kept so and has room for a line
-abbrev pub OfKept : CodeRows → ℕ → StoredObjects → ℕ → (Objects → Type 0) → Type 0
-OfKept code unit stored len P = (objects : Objects) → AreStored code unit objects stored → HaveRoom objects len → P objects
-
-pub one_answered : (code : CodeRows) (unit : ℕ) (lines more : List (List ℕ)) (x : List ℕ) (stored next : StoredObjects) (fine both : Bool) (before now new : Option (List ℕ)) (script : List ℕ)
-    → kept_lines script ≡ lines ++ x ∷ more → length script ≤ max_input → Answered code unit lines stored fine before now → OfKept code unit stored (length x) (λ objects. AreStored code unit (apply_line objects (command_of x)) next)
-    → OfKept code unit stored (length x) (λ objects. both ≡ (fine && is_done (reply_to_line objects (command_of x))))
-    → OfKept code unit stored (length x) (λ objects. Appends now new (reply_text (reply_to_line objects (command_of x)))) → Answered code unit (lines ++ x ∷ []) next both before new
-one_answered code unit lines more x stored next fine both before now new script is within a leaves done says =
+pub one_answered : (code : CodeRows) (unit : ℕ) (lines more : List (List ℕ)) (x : List ℕ) (stored next : Kept) (fine both : Bool) (before now new : Option (List ℕ)) (script : List ℕ)
+    → kept_lines script ≡ lines ++ x ∷ more → Answered code unit lines stored fine before now → OfKept code unit stored (λ objects. AreStored code unit (apply_line objects (command_of x)) next)
+    → OfKept code unit stored (λ objects. both ≡ (fine && is_done (reply_to_line objects (command_of x))))
+    → OfKept code unit stored (λ objects. Appends now new (reply_text (reply_to_line objects (command_of x)))) → Answered code unit (lines ++ x ∷ []) next both before new
+one_answered code unit lines more x stored next fine both before now new script is a leaves done says =
     let objects = objects_after lines in
-    let room = room_for_line script lines more x is within in
     let push : replies_from_none (lines ++ x ∷ []) ≡ replies_from_none lines ++ reply_to_line objects (command_of x) ∷ [] = replies_from_none-append lines (x ∷ []) in
     record {
-      kept = subst (λ o. AreStored code unit o next) (sym (objects_after-push lines x)) (leaves objects a.kept room);
+      kept = subst (λ o. AreStored code unit o next) (sym (objects_after-push lines x)) (leaves objects a.kept);
       all_done =
-          done objects a.kept room ∙ ap (λ b. b && is_done (reply_to_line objects (command_of x))) a.all_done
+          done objects a.kept ∙ ap (λ b. b && is_done (reply_to_line objects (command_of x))) a.all_done
           ∙ sym (ap (list_all is_done) push ∙ list_all-push (replies_from_none lines) (reply_to_line objects (command_of x)));
       said =
           subst (Appends before new) (sym (ap replies_text push ∙ replies_text-push (replies_from_none lines) (reply_to_line objects (command_of x))))
-          (Appends-more _ _ _ _ _ a.said (says objects a.kept room));
+          (Appends-more _ _ _ _ _ a.said (says objects a.kept));
     }
 
 front_of : (n : ℕ) (xs ys zs : List ℕ) → take (length xs + min n (length ys)) (xs ++ (ys ++ zs)) ≡ xs ++ take n ys
@@ -147,12 +143,12 @@ front_of n xs ys zs =
     ∙ ap (λ t. xs ++ t) (take-append-le (min n (length ys)) ys zs (omega arith) ∙ take_min n ys)
 
 -- a line whose reply was said in part
-pub part_answered : (code : CodeRows) (unit : ℕ) (lines more : List (List ℕ)) (x : List ℕ) (stored : StoredObjects) (fine : Bool) (before now new : Option (List ℕ)) (script : List ℕ)
-    → Answered code unit lines stored fine before now → kept_lines script ≡ lines ++ x ∷ more → length script ≤ max_input
-    → OfKept code unit stored (length x) (λ objects. SaysFront now new (reply_text (reply_to_line objects (command_of x)))) → SaysFront before new (answers_text (replies_to script))
-part_answered code unit lines more x stored fine before now new script a is within says =
+pub part_answered : (code : CodeRows) (unit : ℕ) (lines more : List (List ℕ)) (x : List ℕ) (stored : Kept) (fine : Bool) (before now new : Option (List ℕ)) (script : List ℕ)
+    → Answered code unit lines stored fine before now → kept_lines script ≡ lines ++ x ∷ more
+    → OfKept code unit stored (λ objects. SaysFront now new (reply_text (reply_to_line objects (command_of x)))) → SaysFront before new (answers_text (replies_to script))
+part_answered code unit lines more x stored fine before now new script a is says =
     let objects = objects_after lines in
-    let part = says objects a.kept (room_for_line script lines more x is within) in
+    let part = says objects a.kept in
     let r = reply_to_line objects (command_of x) in
     let rest = replies_text (replies_to_lines (apply_line objects (command_of x)) (commands_of more)) in
     let whole : answers_text (replies_to script) ≡ replies_text (replies_from_none lines) ++ (reply_text r ++ rest) =
@@ -187,7 +183,7 @@ refused_of true s e z = absurd (omega arith)
 refused_of false s e z = refl
 
 -- all lines are answered
-pub whole_answered : (code : CodeRows) (unit : ℕ) (lines : List (List ℕ)) (script : List ℕ) (stored : StoredObjects) (fine : Bool) (before now : Option (List ℕ)) (status : ℕ)
+pub whole_answered : (code : CodeRows) (unit : ℕ) (lines : List (List ℕ)) (script : List ℕ) (stored : Kept) (fine : Bool) (before now : Option (List ℕ)) (status : ℕ)
     → Answered code unit lines stored fine before now → lines ≡ kept_lines script → status ≡ cond fine 0 1 → IsRun script status before now
 whole_answered code unit lines script stored fine before now status a is e =
     let said : Appends before now (answers_text (replies_to script)) = subst (Appends before now) (sym (text_of_script script lines (sym is))) a.said in

@@ -4,6 +4,7 @@ pub mod Lines
 pub mod Profiles
 pub mod Replies
 pub mod Script
+pub mod Served
 pub mod Stored
 pub mod Texts
 pub mod Tries

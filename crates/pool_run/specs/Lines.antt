@@ -1,17 +1,22 @@
 -- The lines that are served so far, and the lines that the code's type stands for. Source: this project.
 -- Read first: run_model's Scripts.antt, which has all forms of lines.
-use Rattle.std.specs.Prelude.{◌≤◌, ℕ, Bool, true, false, if◌then◌else◌, List, [], length, map, Option, Some, None}
+use Rattle.std.specs.Prelude.{ℕ, Bool, true, false, if◌then◌else◌, List, map, Option, Some, None}
 use Rattle.ec_positions.specs.Commands.{Command, Updates, Get, GetAttr, Stat, ListObjects, Flush, Scrub}
-use Rattle.ec_positions.specs.Updates.{Append, WriteAt, Full, Delete, SetAttr, RemoveAttr, bytes_given}
+use Rattle.ec_positions.specs.Updates.{Append, WriteAt, Full, Delete, SetAttr, RemoveAttr}
 use Rattle.ec_words.specs.Fields.{fields}
 use Rattle.pool_run.specs.declared.line.Line.{Line}
 use Rattle.pool_run.specs.declared.line.Line.TheVariants as code
 pub use Rattle.run_model.specs.Scripts.{ScriptLine, BadLine, Client, Operator, AskState, MarkUp, MarkDown, Recover, Rebuild, is_kept, kept_lines, line_of_fields}
 
--- `full` and `get` are served so far
+-- the lines that are served so far
 abbrev pub is_served : ScriptLine → Bool
+is_served (Client (Updates (Append name bytes))) = true
+is_served (Client (Updates (WriteAt name off bytes))) = true
 is_served (Client (Updates (Full name bytes))) = true
+is_served (Client (Updates (Delete name))) = true
 is_served (Client (Get name)) = true
+is_served (Client (Stat name)) = true
+is_served (Client Flush) = true
 is_served others = false
 
 -- a line if it is served; one that is not served yet has no form
@@ -33,15 +38,6 @@ command_of text = command_in (script_line text)
 -- those of a script's lines
 abbrev pub commands_of : List (List ℕ) → List (Option Command)
 commands_of lines = map command_of lines
-
--- the bytes that a line puts into an object
-abbrev pub bytes_put : ScriptLine → List ℕ
-bytes_put (Client (Updates update)) = bytes_given update
-bytes_put others = []
-
--- they are no more than this number
-abbrev pub WritesAtMost : ℕ → ScriptLine → Type 0
-WritesAtMost most line = length (bytes_put line) ≤ most
 
 -- the line that the code's type stands for
 abbrev pub line_shown : Line → ScriptLine

@@ -3,18 +3,21 @@
 use Rattle.std.specs.Prelude.{ℕ, List, [], map}
 use Rattle.std.specs.FinMap as finite
 use Rattle.ec_positions.specs.Objects.{Objects}
-use Rattle.ec_positions.specs.Refusals.{Absent}
+use Rattle.ec_positions.specs.Refusals.{Absent, TooLarge, TooManyObjects, TooFull}
 use Rattle.ec_positions.specs.Commands.{Reply, Done, Refused, Bad, apply_line, reply_to_line}
 use Rattle.run_model.specs.Replies.{Answer, Standing, in_memory, replies_in}
 use Rattle.pool_run.specs.Lines.{ScriptLine, command_of, kept_lines, script_line}
 use Rattle.pool_run.specs.declared.reply.Reply.{Reply as CodeReply}
-use Rattle.pool_run.specs.declared.reply.Reply.TheVariants.{Done as CodeDone, Absent as CodeAbsent, Bad as CodeBad}
+use Rattle.pool_run.specs.declared.reply.Reply.TheVariants.{Done as CodeDone, Absent as CodeAbsent, TooLarge as CodeTooLarge, TooManyObjects as CodeTooManyObjects, TooFull as CodeTooFull, Bad as CodeBad}
 pub use Rattle.run_model.specs.Replies.{answers_text, is_done, is_good, replies_text, reply_text}
 
 -- the reply that the code's type stands for
 abbrev pub shown : CodeReply → Reply
 shown (CodeDone text) = Done text []
 shown CodeAbsent = Refused Absent
+shown CodeTooLarge = Refused TooLarge
+shown CodeTooManyObjects = Refused TooManyObjects
+shown CodeTooFull = Refused TooFull
 shown CodeBad = Bad
 
 -- the reply to the text of a line

@@ -11,6 +11,7 @@ mod limits;
 mod line;
 mod object;
 mod objects;
+mod overlay;
 mod profiles;
 mod program;
 mod reply;

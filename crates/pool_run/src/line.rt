@@ -116,7 +116,8 @@ fn is_served(line: &Line) -> bool
     ensures { result ≡ is_served (line_shown line.now) }
 {
     match line {
-        Line::Full { .. } | Line::Get { .. } => true,
+        Line::Append { .. } | Line::Write { .. } | Line::Full { .. } | Line::Delete { .. } => true,
+        Line::Get { .. } | Line::Stat { .. } | Line::Flush => true,
         _ => false,
     }
 }

@@ -49,6 +49,13 @@ impl StoredObject {
         Ok(StoredObject { size, chunks })
     }
 
+    /// The number of the object's bytes.
+    pub fn size(&self) -> u32
+        ensures { result ≡ self.now.size }
+    {
+        self.size
+    }
+
     /// The object's bytes. All positions are there, so the data positions are read as they are.
     pub fn decode(&self, alloc: Global, code: &dyn Code, unit: u32) -> Result<Bytes, NoMemory>
         requires some { 1 ≤ unit }

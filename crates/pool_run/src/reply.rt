@@ -1,5 +1,6 @@
 //! The replies to the lines of a script.
 ghost use Rattle.std.specs.Prelude.{◌≡◌, ◌++◌, [], IfOk, OnOk};
+ghost use Rattle.std.specs.Fmt.{decimal};
 ghost use Rattle.hex.specs.Hex.{encode_lower};
 ghost use Rattle.ec_positions.specs.Commands.{Done};
 ghost use Rattle.ec_words.specs.Fields.{optional_field};
@@ -15,11 +16,32 @@ pub enum Reply {
     Done(Bytes),
     /// `absent`: there is no such object.
     Absent,
+    /// `toolarge`: the object would be longer than an object may be.
+    TooLarge,
+    /// `objects`: there are as many objects as there may be, and this would be one more.
+    TooManyObjects,
+    /// `full`: the objects would take more bytes in all than they may.
+    TooFull,
     /// `bad`: the line has none of the forms.
     Bad,
 }
 
 impl Reply {
+    /// `ok` alone. It takes no memory.
+    pub fn done(alloc: Global) -> Reply
+        ensures { shown result ≡ Done [] [] }
+    {
+        Reply::Done(Bytes::new(alloc))
+    }
+
+    /// `ok` with a number in decimal digits.
+    pub fn of_number(alloc: Global, number: u32) -> Result<Reply, NoMemory>
+        ensures { IfOk result (λ reply. shown reply ≡ Done (decimal number) []) }
+    {
+        let digits = format!(in alloc; "{number}")?;
+        Ok(Reply::Done(Bytes::from_slice(alloc, digits.as_bytes())?))
+    }
+
     /// `ok` with these bytes in hexadecimal digits, in lower case.
     pub fn of_bytes(alloc: Global, bytes: &[u8]) -> Result<Reply, NoMemory>
         ensures { IfOk result (λ reply. shown reply ≡ Done (encode_lower bytes.now) []) }
@@ -34,7 +56,8 @@ impl Reply {
     {
         match self {
             Reply::Done(_) => true,
-            Reply::Absent | Reply::Bad => false,
+            Reply::Absent | Reply::TooLarge | Reply::TooManyObjects | Reply::TooFull => false,
+            Reply::Bad => false,
         }
     }
 }
@@ -57,6 +80,9 @@ fn push_reply(list: &mut Vec<u8>, reply: &Reply) -> Result<(), NoMemory>
             push_field(list, text.as_slice())?;
         }
         Reply::Absent => list.extend_from_slice(b"absent")?,
+        Reply::TooLarge => list.extend_from_slice(b"toolarge")?,
+        Reply::TooManyObjects => list.extend_from_slice(b"objects")?,
+        Reply::TooFull => list.extend_from_slice(b"full")?,
         Reply::Bad => list.extend_from_slice(b"bad")?,
     }
     list.push(b'\n')?;

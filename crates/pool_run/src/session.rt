@@ -1,13 +1,13 @@
 //! A session answers lines one by one, over objects in memory.
-ghost use Rattle.std.specs.Prelude.{◌≡◌, ◌≢◌, ◌≤◌, ◌&&◌, if◌then◌else◌, ℕ, length, true, IfOk, OnOk, OnErr, Err};
-ghost use Rattle.std.specs.FinMap as map;
+ghost use Rattle.std.specs.Prelude.{◌≡◌, ◌≢◌, ◌≤◌, ◌&&◌, if◌then◌else◌, ℕ, true, IfOk, OnOk, OnErr, Err};
 ghost use Rattle.std.specs.Io.KnownBytes.{Appends};
 ghost use Rattle.ec_positions.specs.Objects.{Objects as ObjectMap};
 ghost use Rattle.rig_disk.specs.Faults.{Rose};
 ghost use Rattle.rig_disk.specs.Said.{SaysFront};
 ghost use Rattle.pool_run.specs.Replies.{shown, reply_of, objects_after, reply_text, is_done};
-ghost use Rattle.pool_run.specs.Stored.{AreStored, HaveRoom};
-ghost use Rattle.pool_run.specs.Texts.{max_input};
+ghost use Rattle.pool_run.specs.Lines.{command_of};
+ghost use Rattle.pool_run.specs.Served.{Serves};
+ghost use Rattle.pool_run.specs.Stored.{AreStored, OfKept, nothing};
 
 use crate::line::{LineFault, read_line};
 use crate::objects::Objects;
@@ -36,7 +36,7 @@ pub struct Session {
 impl Session {
     /// A session without objects, in which no line was answered yet.
     pub fn new(alloc: Global) -> Session
-        ensures objects { result.objects ≡ map.empty }
+        ensures objects { result.objects ≡ nothing }
         ensures all_done { result.all_done ≡ true }
     {
         Session {
@@ -46,8 +46,7 @@ impl Session {
         }
     }
 
-    /// Answers a line by objects that are kept by this code with chunks of `unit` bytes, and says the reply. The objects have room
-    /// for what the line may put.
+    /// Answers a line by objects that are kept by this code with chunks of `unit` bytes, and says the reply.
     pub fn serve<R: Rig>(
         &mut self,
         text: &[u8],
@@ -57,17 +56,16 @@ impl Session {
     ) -> Result<(), Stop>
         requires some { 1 ≤ unit }
         requires few { unit ≤ 65536 }
-        requires within { length text.now ≤ max_input }
         requires stored { (all : ObjectMap) × AreStored (meaning code.now) unit all self.old.objects }
-        ensures done { OnOk result ((all : ObjectMap) → AreStored (meaning code.now) unit all self.old.objects
-            → HaveRoom all (length text.now) → self.new.all_done ≡ (self.old.all_done && is_done (reply_of all text.now))) }
-        ensures after { OnOk result ((all : ObjectMap) → AreStored (meaning code.now) unit all self.old.objects
-            → HaveRoom all (length text.now) → AreStored (meaning code.now) unit (objects_after all text.now) self.new.objects) }
-        ensures said { OnOk result ((all : ObjectMap) → AreStored (meaning code.now) unit all self.old.objects
-            → HaveRoom all (length text.now) → Appends (R.said rig.old) (R.said rig.new) (reply_text (reply_of all text.now))) }
+        ensures done { OnOk result (OfKept (meaning code.now) unit self.old.objects (λ all.
+            self.new.all_done ≡ (self.old.all_done && is_done (reply_of all text.now)))) }
+        ensures after { OnOk result (OfKept (meaning code.now) unit self.old.objects (λ all.
+            AreStored (meaning code.now) unit (objects_after all text.now) self.new.objects)) }
+        ensures said { OnOk result (OfKept (meaning code.now) unit self.old.objects (λ all.
+            Appends (R.said rig.old) (R.said rig.new) (reply_text (reply_of all text.now)))) }
         ensures quiet { OnOk result (R.faults rig.new VOICE ≡ R.faults rig.old VOICE) }
-        ensures front { OnErr result ((all : ObjectMap) → AreStored (meaning code.now) unit all self.old.objects
-            → HaveRoom all (length text.now) → SaysFront (R.said rig.old) (R.said rig.new) (reply_text (reply_of all text.now))) }
+        ensures front { OnErr result (OfKept (meaning code.now) unit self.old.objects (λ all.
+            SaysFront (R.said rig.old) (R.said rig.new) (reply_text (reply_of all text.now)))) }
         ensures voice { result ≡ Err Stop.Voice → Rose (R.faults rig.old VOICE) (R.faults rig.new VOICE) }
         ensures slots { (slot : ℕ) → slot ≢ VOICE → R.faults rig.new slot ≡ R.faults rig.old slot }
     {
@@ -101,7 +99,6 @@ fn both(one: bool, other: bool) -> bool
 }
 
 // The reply to one line, whose effect is done. After an `Err` nothing has changed.
-#[tactic(auto, using(crate::proofs::RoomLemmas::line_room))]
 fn answer(
     alloc: Global,
     text: &[u8],
@@ -111,12 +108,8 @@ fn answer(
 ) -> Result<Reply, NoMemory>
     requires some { 1 ≤ unit }
     requires few { unit ≤ 65536 }
-    requires within { length text.now ≤ max_input }
     requires stored { (all : ObjectMap) × AreStored (meaning code.now) unit all objects.old }
-    ensures reply { IfOk result (λ reply. (all : ObjectMap) → AreStored (meaning code.now) unit all objects.old
-        → HaveRoom all (length text.now) → shown reply ≡ reply_of all text.now) }
-    ensures after { OnOk result ((all : ObjectMap) → AreStored (meaning code.now) unit all objects.old
-        → HaveRoom all (length text.now) → AreStored (meaning code.now) unit (objects_after all text.now) objects.new) }
+    ensures done { IfOk result (Serves (meaning code.now) unit (command_of text.now) objects.old objects.new) }
     ensures unchanged { OnErr result (objects.new ≡ objects.old) }
 {
     match read_line(alloc, text) {

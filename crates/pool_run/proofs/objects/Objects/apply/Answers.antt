@@ -1,24 +1,21 @@
-use Rattle.std.proofs.Common.{List, ℕ, [], length, sym, ap, subst, ◌∙◌}
-use Rattle.ec_positions.specs.Objects.{Objects}
-use Rattle.ec_positions.specs.Commands.{Done, apply_line, reply_to_line}
-use Rattle.pool_run.specs.Lines.{ScriptLine, bytes_put, command_in, line_shown}
-use Rattle.pool_run.specs.Stored.{AreStored, HaveRoom}
-use Rattle.pool_run.proofs.CommandLemmas.{full_reply, full_objects}
+use Rattle.std.proofs.Common.{Option, sym, ap, subst}
+use Rattle.std.proofs.lemmas.Result.{IfOk-weaker}
+use Rattle.ec_positions.specs.Commands.{Command}
+use Rattle.pool_run.specs.Lines.{command_in, line_shown}
+use Rattle.pool_run.specs.Served.{Serves}
 use Rattle.pool_run.proofs.objects.Objects.apply.Goals as goal
 
-pub returns-in-Full-clause-reply : goal.returns-in-Full-clause-reply
-returns-in-Full-clause-reply g c = λ objects kept room.
-    let line = ap line_shown c.in-Full.is in
-    let has = subst (λ (its : ScriptLine). HaveRoom objects (length (bytes_put its))) line room in
-    ap (λ (text : List ℕ). Done text []) c.new.ensures
-    ∙ sym (full_reply objects c.in-Full.name c.in-Full.bytes has)
-    ∙ ap (λ (its : ScriptLine). reply_to_line objects (command_in its)) (sym line)
-
-pub returns-in-Full-clause-ok : goal.returns-in-Full-clause-ok
-returns-in-Full-clause-ok g c = λ objects kept room.
+pub returns-in-Delete-clause-done : goal.returns-in-Delete-clause-done
+returns-in-Delete-clause-done g c =
     let code = (goal.Code-dyn g c.args.code.now).meaning c.args.code.now.1 in
-    let line = ap line_shown c.in-Full.is in
-    let has = subst (λ (its : ScriptLine). HaveRoom objects (length (bytes_put its))) line room in
-    subst (λ (all : Objects). AreStored code c.args.unit all c.set_bytes.new.self)
-    (sym (full_objects objects c.in-Full.name c.in-Full.bytes has) ∙ ap (λ (its : ScriptLine). apply_line objects (command_in its)) (sym line))
-    (c.in_ok-set_bytes-in-Full.ensures.ok objects kept)
+    subst (λ (command : Option Command). Serves code c.args.unit command c.args.self.now c.delete.new.self c.delete.result)
+    (sym (ap (λ line. command_in (line_shown line)) c.in-Delete.is)) (c.delete.ensures code c.args.unit)
+
+pub returns-in-Stat-clause-done : goal.returns-in-Stat-clause-done
+returns-in-Stat-clause-done g c =
+    let code = (goal.Code-dyn g c.args.code.now).meaning c.args.code.now.1 in
+    IfOk-weaker c.stat.result _ _
+    (λ reply serves.
+    subst (λ (command : Option Command). Serves code c.args.unit command c.args.self.now c.args.self.now reply)
+    (sym (ap (λ line. command_in (line_shown line)) c.in-Stat.is)) (serves code c.args.unit))
+    c.stat.ensures
