@@ -1,9 +1,12 @@
-use Rattle.std.proofs.Common.{Option, sym, ap, subst}
+use Rattle.std.proofs.Common.{rules, Option, sym, ap, subst}
 use Rattle.std.proofs.lemmas.Result.{IfOk-weaker}
 use Rattle.ec_positions.specs.Commands.{Command}
 use Rattle.pool_run.specs.Lines.{command_in, line_shown}
 use Rattle.pool_run.specs.Served.{Serves}
 use Rattle.pool_run.proofs.objects.Objects.apply.Goals as goal
+
+pub returns-in-Append-clause-done : goal.returns-in-Append-clause-done
+returns-in-Append-clause-done g c = search rules
 
 pub returns-in-Delete-clause-done : goal.returns-in-Delete-clause-done
 returns-in-Delete-clause-done g c =
