@@ -12,6 +12,8 @@ mod map_steps;
 #[cfg(test)]
 mod maps;
 #[cfg(test)]
+mod pool_starts;
+#[cfg(test)]
 mod pools;
 #[cfg(test)]
 mod starts;
