@@ -22,7 +22,7 @@ use Rattle.ec_positions.proofs.MapLemmas.{position_if, get-shard_of}
 use Rattle.ec_positions.proofs.WriteLemmas.{length-overlaid}
 use Rattle.ec_pipeline.specs.Drafts.{HasSize, size_if, size_or_none}
 use Rattle.ec_pipeline.proofs.SetLemmas.{position_below}
-use Rattle.ec_pipeline.specs.Checking.{next_version, IsWorn, IsKnown}
+use Rattle.ec_pipeline.specs.Checking.{next_version, IsWorn, IsKnown, IsToldBy, IsToldByLead}
 use Rattle.ec_pipeline.specs.Sizes.{new_size_of}
 use Rattle.ec_pipeline.specs.declared.checking.Checked.{Checked}
 use Rattle.ec_pipeline.specs.declared.fault.PrepareFault.{PrepareFault}
@@ -133,4 +133,18 @@ known_told set shelf lead has store is shard told epoch c (Ok ch) size versions 
       prior_is = versions.0 ∙ there;
       version_is = versions.1 ∙ ap (next_version epoch) there;
       size_is = size_told code unit lead m shard.state.objects (name_of c) ch.size (lead_objects code unit set m head shelf shows lead has store is shard told) size;
+    }
+
+pub lead_told : (set : ℕ) (shelf : Shelved) (lead : ℕ) → HasPosition set lead → ((s : ℕ) → s < lead → HasPosition set s → ⊥) → (store : Store) → Some store ≡ store_at shelf lead
+    → (shard : Shard) → shard ≡ (told_in store).shard → (epoch : ℕ) (c : Update) (result : Result Checked PrepareFault) → IfOk result (λ ch. ch.size ≡ size_if (fin.get shard.state.objects (name_of c)))
+    → IfOk result (λ ch. (ch.prior ≡ shard.state.head) × (ch.version ≡ next_version epoch shard.state.head))
+    → IfOk result (λ ch. (ch.g.k ≡ shard.geometry.k) × (ch.g.unit ≡ shard.geometry.unit)) → IfOk result (IsToldByLead set shelf epoch c)
+lead_told set shelf lead has lowest store is shard same epoch c (Err why) size versions stripes = tt
+lead_told set shelf lead has lowest store is shard same epoch c (Ok ch) size versions stripes =
+    let by : IsToldBy shard epoch c ch = record { k_is = stripes.0; unit_is = stripes.1; prior_is = versions.0; version_is = versions.1; size_is = size } in
+    record {
+      lead = lead;
+      among = has;
+      least = lowest;
+      told = subst (λ (o : Option Store). IsSomeAnd o (λ store. IsToldBy (told_in store).shard epoch c ch)) is (subst (λ (s : Shard). IsToldBy s epoch c ch) same by);
     }

@@ -1,9 +1,17 @@
+pub mod AfterFlushLemmas
 pub mod AttrLemmas
+pub mod ChangeLemmas
 pub mod CheckLemmas
+pub mod DraftLemmas
 pub mod FlushAllLemmas
 pub mod FlushLemmas
+pub mod HinderLemmas
 pub mod ObjectLemmas
+pub mod PrepareLemmas
+pub mod ReadLemmas
 pub mod RefuseLemmas
 pub mod SetLemmas
 pub mod SettleLemmas
 pub mod ShelfLemmas
+pub mod ShowLemmas
+pub mod StripeLemmas

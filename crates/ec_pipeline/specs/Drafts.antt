@@ -1,12 +1,12 @@
 -- An update before it is cut into positions. Source: this project.
-use Rattle.std.specs.Prelude.{◌≡◌, ℕ, length, Option, Some, None}
+use Rattle.std.specs.Prelude.{◌≡◌, ◌+◌, ◌*◌, ◌==◌, ℕ, length, max, if◌then◌else◌, Option, Some, None}
 use Rattle.ec_model.specs.Codes.{CodeRows}
 use Rattle.shard_model.specs.Changes as changes
 use Rattle.shard_model.specs.Objects.{ShardObject}
 use Rattle.shard_model.specs.Steps.{Step, Log}
 use Rattle.ec_positions.specs.Objects.{Object}
 use Rattle.ec_positions.specs.Updates.{Update, Append, WriteAt, Full, Delete, SetAttr, RemoveAttr, name_of}
-use Rattle.ec_positions.specs.Positions.{position_list}
+use Rattle.ec_positions.specs.Positions.{position_list, first_touched, count_touched}
 use Rattle.ec_pipeline.specs.declared.draft.Draft.{Draft}
 
 -- what position p gets of a draft whose bytes are written into an object
@@ -46,3 +46,17 @@ HasSize (Some object) size = size ≡ Some (length object.bytes)
 abbrev pub size_if : Option ShardObject → Option ℕ
 size_if None = None
 size_if (Some object) = Some object.size
+
+-- a draft of `len` bytes that are put into an object from `off` on: the numbers are those of an object of that size, and it has
+-- the bytes of the stripes that are touched, whatever these are
+pub record HasShape (k unit : ℕ) (old : Option ℕ) (off len : ℕ) (draft : Draft) : Type 0 where
+  pub fresh_is : draft.fresh ≡ fresh_number old
+  pub size_is : draft.size ≡ (if len == 0 then size_or_none old else max (size_or_none old) (off + len))
+  pub at_is : draft.at ≡ first_touched (k * unit) off len * unit
+  pub long : length draft.window.items ≡ count_touched (k * unit) off len * (k * unit)
+
+-- so for an update of an object of that size; one that writes no range asks for nothing
+abbrev pub IsShapedFor : ℕ → ℕ → Option ℕ → Update → Draft → Type 0
+IsShapedFor k unit old (Append name bytes) draft = HasShape k unit old (size_or_none old) (length bytes) draft
+IsShapedFor k unit old (WriteAt name off bytes) draft = HasShape k unit old off (length bytes) draft
+IsShapedFor k unit old others draft = Unit {0}

@@ -1,6 +1,8 @@
 pub mod Checking
 pub mod Drafts
 pub mod Flushing
+pub mod Preparing
+pub mod Reading
 pub mod Refusals
 pub mod Settling
 pub mod Shelving

@@ -10,7 +10,7 @@ ghost use Rattle.shard_store.specs.Told.{IsAccepted};
 ghost use Rattle.ec_positions.specs.Objects.{Objects};
 ghost use Rattle.ec_positions.specs.Refusals.{refusal_of};
 ghost use Rattle.ec_positions.specs.Updates.{name_of, puts_bytes};
-ghost use Rattle.ec_pipeline.specs.Checking.{IsKnown, IsWorn, next_version, worn_room};
+ghost use Rattle.ec_pipeline.specs.Checking.{IsKnown, IsToldByLead, IsWorn, next_version, worn_room};
 ghost use Rattle.ec_pipeline.specs.Drafts.{size_or_none, size_if};
 ghost use Rattle.ec_pipeline.specs.Refusals.{IsRefusalFor, IsSmall, refusal_if, refused_in};
 ghost use Rattle.ec_pipeline.specs.Showing.{ShowsAt};
@@ -84,6 +84,7 @@ pub fn size_or_none(size: Option<u32>) -> u32
 pub fn lowest(set: Mask) -> Option<u8>
     requires few { set.0 < 2 ^ 16 }
     ensures some { IfSome result (λ p. (p < 16) × HasPosition set.0 p) }
+    ensures least { IfSome result (λ p. (q : ℕ) → q < p → HasPosition set.0 q → ⊥) }
     ensures none { result ≡ None → set.0 ≡ 0 }
 {
     for p in 0..16u8 {
@@ -135,6 +136,7 @@ pub fn check(
     ensures faults { IfErr result (λ fault. (fault ≡ PrepareFault.Worn) ⊎ ((refusal : Refused) × (fault ≡ PrepareFault.Refused refusal))) }
     ensures known { IfOk result (λ checked. (code : CodeRows) (unit : ℕ) (objects : Objects) (head : Meant)
         → ShowsAt code unit joined.0 objects head shelf.now → IsKnown code unit objects head epoch (update_of update.now) checked) }
+    ensures lead { IfOk result (IsToldByLead joined.0 shelf.now epoch (update_of update.now)) }
     ensures k { IfOk result (λ checked. (k : ℕ)
         → ((s : ℕ) → HasPosition joined.0 s → IsSomeAnd (store_at shelf.now s) (λ store. (told_in store).shard.geometry.k ≡ k)) → checked.g.k ≡ k) }
     ensures roomy { IfOk result (λ _. (s : ℕ) → s < 16 → HasPosition joined.0 s → IfSome (store_at shelf.now s) (λ store. worn_room ≤ room_in store)) }

@@ -7,11 +7,15 @@
 //! and 30 zeros, 32 zeros, and the sum of both.
 #![tactic(auto)]
 
+mod changing;
 mod checking;
 mod draft;
+mod drafting;
 mod fault;
 mod flushing;
 mod limits;
+mod pipeline;
+mod reading;
 mod refusing;
 mod settling;
 mod staging;
@@ -19,8 +23,11 @@ mod update;
 
 pub use checking::{Checked, check};
 pub use draft::{Draft, draft_step};
+pub use drafting::write_draft;
 pub use fault::{PrepareFault, Refusal};
 pub use flushing::flush_all;
+pub use pipeline::{Flushed, Pipeline};
+pub use reading::{read_part, window};
 pub use settling::{firm_step, stage_if, trim_step};
 pub use staging::{accept_all, change_all, unstage_all};
 pub use update::Update;
