@@ -1,3 +1,4 @@
 pub mod FaultLemmas
 pub mod ProfileLemmas
 pub mod StateLemmas
+pub mod StoreLemmas

@@ -9,6 +9,7 @@ ghost use Rattle.shard_store.specs.declared.store.Store.{Store as Stored};
 ghost use Rattle.pool_map.specs.Pool.{map_of};
 ghost use Rattle.pool_slots.specs.Ready.{MayStart, HasStarted};
 ghost use Rattle.pool_moves.specs.Instants.{MovedFrom};
+ghost use Rattle.pool_moves.specs.Losing.{HaveSameSlots, LosesFailed};
 ghost use Rattle.pool_moves.specs.Moves.{Starts};
 ghost use Rattle.pool_moves.specs.Ready.{IsReady, IsHeld, StaysReady, HasFullStore};
 ghost use Rattle.pool_moves.specs.Turns.{stores_below};
@@ -73,6 +74,7 @@ impl Pool {
             → IsLastAlive (map_of self.old.map).state.intervals epoch joined base.now → HasPosition joined slot
             → During R.clock R.images rig.old rig.new (MovedFrom (Starts (layout_of self.old) epoch joined base.now)
             (layout_of self.old) (R.images rig.old (R.clock rig.old))) }
+        ensures loses { LosesFailed (R.faults rig.old) (R.faults rig.new) self.old.shelf self.new.shelf }
         ensures map_faults { R.faults rig.new 16 ≡ R.faults rig.old 16 }
     {
         texts_have_one_story();
@@ -84,10 +86,11 @@ impl Pool {
         match start_stored(rig, &mut self.shelf, slot, epoch, base) {
             Ok(()) => Ok(()),
             Err(StoreFault::NoMemory) => Err(StartFault::NoMemory),
-            Err(_) => {
+            Err(StoreFault::Failed) => {
                 self.shelf.drop_slot(slot);
                 Err(StartFault::Lost)
             }
+            Err(StoreFault::BadSlot { .. } | StoreFault::Spent) => unreachable!(),
         }
     }
 
@@ -115,6 +118,8 @@ impl Pool {
             → IsLastAlive (map_of self.old.map).state.intervals epoch joined.0 base.now
             → During R.clock R.images rig.old rig.new (MovedFrom (Starts (layout_of self.old) epoch joined.0 base.now)
             (layout_of self.old) (R.images rig.old (R.clock rig.old))) }
+        ensures slots { OnOk result (HaveSameSlots self.old.shelf self.new.shelf) }
+        ensures loses { LosesFailed (R.faults rig.old) (R.faults rig.new) self.old.shelf self.new.shelf }
         ensures map_faults { R.faults rig.new 16 ≡ R.faults rig.old 16 }
     {
         for p in 0..self.n {

@@ -9,6 +9,7 @@ ghost use Rattle.pool_map.specs.Faults.{HasMapCause};
 ghost use Rattle.pool_map.specs.Pool.{has_begun, map_after, map_of, IsWorn};
 ghost use Rattle.pool_moves.specs.Choosing.{AreUp, StoresChoose};
 ghost use Rattle.pool_moves.specs.Instants.{MovedFrom};
+ghost use Rattle.pool_moves.specs.Losing.{LosesFailed};
 ghost use Rattle.pool_moves.specs.Moves.{Begins, GoesAlive};
 ghost use Rattle.pool_moves.specs.Ready.{IsReady, IsHeld, StaysReady};
 ghost use Rattle.pool_core.specs.Pools.{layout_of};
@@ -36,6 +37,7 @@ impl Pool {
             rig.old rig.new self.old.map self.new.map self.old.shelf self.new.shelf) }
         ensures worn { result ≡ Err MapFault.Worn → IsWorn self.new.map }
         ensures faults { IfErr result (λ fault. (fault ≡ MapFault.Failed) ⊎ ((fault ≡ MapFault.Worn) ⊎ (fault ≡ MapFault.NoMemory))) }
+        ensures loses { LosesFailed (R.faults rig.old) (R.faults rig.new) self.old.shelf self.new.shelf }
         ensures only_if_fault { HasMapCause (R.faults rig.old 16) (R.faults rig.new 16) result }
         ensures any_moment { IsHeld (R.reads rig.old) (R.images rig.old (R.clock rig.old)) self.old.map self.old.shelf
             → During R.clock R.images rig.old rig.new
@@ -63,6 +65,7 @@ impl Pool {
 
         ensures step { OnOk result (map_of self.new.map ≡ map_after (map_of self.old.map)
             (steps.Alive (last_epoch (map_of self.old.map).state.intervals) joined.0 base)) }
+        ensures dated { OnOk result (last_epoch (map_of self.new.map).state.intervals ≡ last_epoch (map_of self.old.map).state.intervals) }
         ensures same { (self.new.shelf ≡ self.old.shelf) × (layout_of self.new ≡ layout_of self.old)
             × (self.new.min_size ≡ self.old.min_size) }
         ensures ready { OnOk result (StaysReady (layout_of self.old) R.is_here R.reads R.clock R.images
@@ -70,6 +73,7 @@ impl Pool {
         ensures newest { OnOk result (IsLastAlive (map_of self.new.map).state.intervals
             (last_epoch (map_of self.old.map).state.intervals) joined.0 base) }
         ensures faults { IfErr result (λ fault. fault ≡ MapFault.Failed) }
+        ensures loses { LosesFailed (R.faults rig.old) (R.faults rig.new) self.old.shelf self.new.shelf }
         ensures only_if_fault { HasMapCause (R.faults rig.old 16) (R.faults rig.new 16) result }
         ensures any_moment { (code : CodeRows) (up : _) → AreUp self.old.shelf up
             → StoresChoose code (kept (map_of self.old.map).state) self.old.shelf up joined.0 base

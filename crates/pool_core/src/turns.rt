@@ -1,17 +1,18 @@
 //! Turns: an interval begins, and goes as far as the slots that are up let it.
-ghost use Rattle.std.specs.Prelude.{◌≡◌, ◌⊎◌, ◌<◌, ℕ, true, Ok, Err, Some, None, OnOk};
+ghost use Rattle.std.specs.Prelude.{◌≡◌, ◌⊎◌, ◌≤◌, ◌<◌, ℕ, true, Ok, Err, Some, None, IfOk, OnOk};
 ghost use Rattle.ec_model.specs.Codes.{CodeRows};
 ghost use Rattle.map_model.specs.States.{last_epoch};
 ghost use Rattle.rig_disk.specs.During.{During};
 ghost use Rattle.pool_map.specs.Pool.{has_begun, map_of, IsWorn};
 ghost use Rattle.pool_moves.specs.Choosing.{AreUp, MayServe};
 ghost use Rattle.pool_moves.specs.Instants.{MovedFrom};
+ghost use Rattle.pool_moves.specs.Losing.{LosesFailed};
 ghost use Rattle.pool_moves.specs.Moves.{Move};
 ghost use Rattle.pool_moves.specs.Ready.{IsReady, IsHeld, StaysReady, HasFullStore};
 ghost use Rattle.pool_moves.specs.Turns.{AreComplete, stores_below};
 ghost use Rattle.pool_core.specs.Faults.{HasTurnCause, pool_fault};
 ghost use Rattle.pool_core.specs.Pools.{layout_of};
-ghost use Rattle.pool_core.specs.States.{Waits};
+ghost use Rattle.pool_core.specs.States.{HasTurned, HasTurnedSince, IsServed};
 ghost use Rattle.pool_core.specs.declared.state.State.TheVariants.{Active};
 
 use crate::activation::StartFault;
@@ -59,6 +60,10 @@ impl Pool {
         ensures active { (state : _) → result ≡ Ok (Some state) → (state ≡ Active epoch joined)
             × (IsHeld (R.reads rig.old) (R.images rig.old (R.clock rig.old)) self.old.map self.old.shelf
             → AreComplete (layout_of self.old) (R.images rig.new (R.clock rig.new)) epoch joined.0) }
+        ensures served { (state : _) → result ≡ Ok (Some state)
+            → IsServed (map_of self.old.map) (map_of self.new.map) self.old.shelf self.new.shelf self.old.n epoch joined.0 base.now }
+        ensures dated { OnOk result (last_epoch (map_of self.new.map).state.intervals ≡ last_epoch (map_of self.old.map).state.intervals) }
+        ensures loses { LosesFailed (R.faults rig.old) (R.faults rig.new) self.old.shelf self.new.shelf }
         ensures worn { result ≡ Err PoolFault.Worn → HasFullStore self.new.shelf }
         ensures only_if_fault { HasTurnCause (R.faults rig.old 16) (R.faults rig.new 16) result }
         ensures any_moment { (code : CodeRows) (up : ℕ) → AreUp self.old.shelf up
@@ -94,8 +99,10 @@ impl Pool {
         ensures active { (epoch : ℕ) (joined : _) → result ≡ Ok (Some (Active epoch joined))
             → IsHeld (R.reads rig.old) (R.images rig.old (R.clock rig.old)) self.old.map self.old.shelf
             → AreComplete (layout_of self.old) (R.images rig.new (R.clock rig.new)) epoch joined.0 }
-        ensures waits { Waits (meaning code.now) (map_of self.new.map) self.new.shelf self.old.min_size
-            (λ state. result ≡ Ok (Some state)) }
+        ensures turned { (state : _) → result ≡ Ok (Some state) → HasTurned (meaning code.now) self.old.n
+            (map_of self.old.map) (map_of self.new.map) self.old.shelf self.new.shelf self.old.min_size state }
+        ensures later { OnOk result (last_epoch (map_of self.old.map).state.intervals ≤ last_epoch (map_of self.new.map).state.intervals) }
+        ensures loses { LosesFailed (R.faults rig.old) (R.faults rig.new) self.old.shelf self.new.shelf }
         ensures worn { result ≡ Err PoolFault.Worn → IsWorn self.new.map ⊎ HasFullStore self.new.shelf }
         ensures only_if_fault { HasTurnCause (R.faults rig.old 16) (R.faults rig.new 16) result }
         ensures any_moment { IsHeld (R.reads rig.old) (R.images rig.old (R.clock rig.old)) self.old.map self.old.shelf
@@ -127,8 +134,9 @@ impl Pool {
         ensures active { (epoch : ℕ) (joined : _) → result ≡ Ok (Active epoch joined)
             → IsHeld (R.reads rig.old) (R.images rig.old (R.clock rig.old)) self.old.map self.old.shelf
             → AreComplete (layout_of self.old) (R.images rig.new (R.clock rig.new)) epoch joined.0 }
-        ensures waits { Waits (meaning code.now) (map_of self.new.map) self.new.shelf self.old.min_size
-            (λ state. result ≡ Ok state) }
+        ensures turned { IfOk result (HasTurnedSince (meaning code.now) self.old.n (map_of self.old.map) (map_of self.new.map)
+            self.new.shelf self.old.min_size) }
+        ensures loses { LosesFailed (R.faults rig.old) (R.faults rig.new) self.old.shelf self.new.shelf }
         ensures worn { result ≡ Err PoolFault.Worn → IsWorn self.new.map ⊎ HasFullStore self.new.shelf }
         ensures only_if_fault { HasTurnCause (R.faults rig.old 16) (R.faults rig.new 16) result }
         ensures any_moment { IsHeld (R.reads rig.old) (R.images rig.old (R.clock rig.old)) self.old.map self.old.shelf

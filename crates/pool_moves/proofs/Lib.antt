@@ -2,9 +2,11 @@ pub mod ChooseLemmas
 pub mod ContentLemmas
 pub mod CreateLemmas
 pub mod DecideLemmas
+pub mod FindingLemmas
 pub mod HeldLemmas
 pub mod InstantLemmas
 pub mod LoopLemmas
+pub mod LosingLemmas
 pub mod MakingLemmas
 pub mod MapStepLemmas
 pub mod MaskLemmas

@@ -53,14 +53,6 @@ pub record ComeTo (code : CodeRows) (intervals : List Interval) (shelf : Shelved
   pub are_holding : (p : ℕ) → HasPosition holding p ↔ StoreHolds shelf p version
   pub state_is : IsState code peers min holding state
 
--- the slots that have a store come to this state
-pub record IsStateOf (code : CodeRows) (intervals : List Interval) (shelf : Shelved) (min : ℕ) (state : State) : Type 0 where
-  pub up : ℕ
-  pub are_up : AreUp shelf up
-  pub version : Version
-  pub holding : ℕ
-  pub come_to : ComeTo code intervals shelf up min version holding state
-
 -- the version that these slots choose, and those of them that hold it
 pub record StoresChoose (code : CodeRows) (intervals : List Interval) (shelf : Shelved) (up joined : ℕ) (base : Version) : Type 0 where
   pub peers : PeeringInput

@@ -1,8 +1,10 @@
 pub mod Choosing
 pub mod Contents
 pub mod Creating
+pub mod Finding
 pub mod Instants
 pub mod Laws
+pub mod Losing
 pub mod Making
 pub mod Moves
 pub mod Opening

@@ -11,6 +11,7 @@ use Rattle.pool_moves.specs.Instants.{MovedFrom}
 use Rattle.pool_moves.specs.Moves.{Begins}
 use Rattle.pool_moves.proofs.InstantLemmas.{runs_none}
 use Rattle.pool_moves.proofs.LoopLemmas.{ok_err}
+use Rattle.pool_moves.proofs.LosingLemmas.{loses_still}
 use Rattle.pool_moves.proofs.MapStepLemmas.{step_moments, shelf_ready, shelf_held, begin_fits}
 use Rattle.pool_core.specs.Pools.{layout_of}
 use Rattle.pool_core.proofs.pool.Pool.begin.Goals as goal
@@ -110,3 +111,11 @@ returns-in-Err-clause-any_moment g c held =
     c.in-Err.ensures.stepped.refused)
     (λ memory. goes (not_worn c.in-Err.fault NoMemory memory memory_apart)) rest)
     c.in-Err.ensures.faults
+
+pub returns-in-Ok-clause-loses : goal.returns-in-Ok-clause-loses
+returns-in-Ok-clause-loses g c =
+    loses_still (g.R.Rig.faults c.args.rig.now) (g.R.Rig.faults c.begin.new.rig) c.args.self.now.shelf c.args.self.now.shelf refl c.begin.ensures.kept.on_slot.kept.counts.faults
+
+pub returns-in-Err-clause-loses : goal.returns-in-Err-clause-loses
+returns-in-Err-clause-loses g c =
+    loses_still (g.R.Rig.faults c.args.rig.now) (g.R.Rig.faults c.begin.new.rig) c.args.self.now.shelf c.args.self.now.shelf refl c.begin.ensures.kept.on_slot.kept.counts.faults

@@ -1,4 +1,4 @@
-use Rattle.std.proofs.Common.{◌≡◌, ◌∙◌, true, sym, ap, subst}
+use Rattle.std.proofs.Common.{◌≡◌, ◌∙◌, true, refl, sym, ap, subst}
 use Rattle.map_model.specs.States.{fits, last_epoch}
 use Rattle.map_model.specs.Steps.{Alive}
 use Rattle.pool_history.specs.Images.{IsLastAlive}
@@ -7,8 +7,10 @@ use Rattle.pool_map.specs.Pool.{journal_of, map_of, map_after, Steps}
 use Rattle.pool_moves.specs.Contents.{with_map}
 use Rattle.pool_moves.specs.Moves.{GoesAlive}
 use Rattle.pool_moves.proofs.ChooseLemmas.{contents_choose}
+use Rattle.pool_moves.proofs.LosingLemmas.{loses_still}
 use Rattle.pool_moves.proofs.MapStepLemmas.{step_moments, shelf_ready, shelf_held}
 use Rattle.pool_moves.proofs.NewestLemmas.{is_last_alive}
+use Rattle.pool_moves.proofs.TurnLemmas.{alive_epoch}
 use Rattle.pool_core.specs.Pools.{layout_of}
 use Rattle.pool_core.proofs.pool.Pool.go_alive.Goals as goal
 
@@ -94,3 +96,18 @@ returns-in-Err-clause-any_moment g c code up are_up choose held =
       is = ap (λ (x : PoolImage). with_map before (map_after before.map (Alive (last_epoch x.state.intervals) c.args.joined.0 c.args.base))) (sym same);
     })
     c.alive.ensures.stepped.any_moment
+
+pub returns-in-Ok-clause-loses : goal.returns-in-Ok-clause-loses
+returns-in-Ok-clause-loses g c =
+    loses_still (g.R.Rig.faults c.args.rig.now) (g.R.Rig.faults c.alive.new.rig) c.args.self.now.shelf c.args.self.now.shelf refl c.alive.ensures.kept.on_slot.kept.counts.faults
+
+pub returns-in-Err-clause-loses : goal.returns-in-Err-clause-loses
+returns-in-Err-clause-loses g c =
+    loses_still (g.R.Rig.faults c.args.rig.now) (g.R.Rig.faults c.alive.new.rig) c.args.self.now.shelf c.args.self.now.shelf refl c.alive.ensures.kept.on_slot.kept.counts.faults
+
+pub returns-in-Ok-clause-dated : goal.returns-in-Ok-clause-dated
+returns-in-Ok-clause-dated g c =
+    let m = map_of c.args.self.now.map in
+    let epoch = last_epoch m.state.intervals in
+    let newest = c.the_newest_goes_alive.ensures m.n m.state epoch c.args.joined.0 c.args.base c.args.self.now.map.sound c.requires.fits in
+    alive_epoch m (map_of c.alive.new.self) epoch c.args.joined.0 c.args.base newest.last newest.was c.in-Ok.ensures.stepped.step

@@ -1,8 +1,11 @@
-use Rattle.std.proofs.Common.{◌≡◌, ◌<◌, ◌∙◌, inl, inr, refl, Result, Option, Ok, Err, Some, sym, ap, subst}
+use Rattle.std.proofs.Common.{◌≡◌, ◌<◌, ◌∙◌, inl, inr, refl, is_some, Result, Option, Ok, Err, Some, sym, ap, subst}
 use Rattle.rig_disk.specs.During.{During}
 use Rattle.pool_history.specs.Images.{IsLastAlive}
 use Rattle.shard_store.specs.Shelved.{Shelved}
-use Rattle.pool_map.specs.Pool.{map_of}
+use Rattle.shard_store.specs.Shelves.{store_at}
+use Rattle.map_model.specs.States.{last_epoch}
+use Rattle.map_model.specs.Steps.{Alive}
+use Rattle.pool_map.specs.Pool.{map_of, map_after}
 use Rattle.pool_map.specs.declared.map.PoolMap.{PoolMap}
 use Rattle.pool_slots.specs.Ready.{MayStart}
 use Rattle.pool_moves.specs.Contents.{Layout}
@@ -12,6 +15,7 @@ use Rattle.pool_moves.specs.Ready.{IsReady}
 use Rattle.pool_moves.proofs.ChooseLemmas.{contents_complete}
 use Rattle.pool_moves.proofs.InstantLemmas.{runs_on, runs_wider}
 use Rattle.pool_moves.proofs.LoopLemmas.{ok_err}
+use Rattle.pool_moves.proofs.LosingLemmas.{loses_on}
 use Rattle.pool_map.specs.declared.fault.MapFault.{MapFault}
 use Rattle.pool_map.specs.declared.fault.MapFault.TheVariants as map
 use Rattle.pool_core.specs.Pools.{layout_of}
@@ -163,3 +167,38 @@ returns-in-Ok-start_joined-clause-active g c state is = (
             (λ p below member. c.in-Ok-start_joined.ensures.started p (subst (λ (x : Layout). p < x.n) (sym c.go_alive.ensures.same.1) below) member);
       },
 )
+
+pub returns-in-Ok-start_joined-clause-loses : goal.returns-in-Ok-start_joined-clause-loses
+returns-in-Ok-start_joined-clause-loses g c =
+    loses_on (g.R.Rig.faults c.args.rig.now) (g.R.Rig.faults c.go_alive.new.rig) (g.R.Rig.faults c.start_joined.new.rig) c.args.self.now.shelf c.go_alive.new.self.shelf c.start_joined.new.self.shelf
+    c.go_alive.ensures.loses c.start_joined.ensures.loses
+
+pub returns-in-Err-Lost-clause-loses : goal.returns-in-Err-Lost-clause-loses
+returns-in-Err-Lost-clause-loses g c =
+    loses_on (g.R.Rig.faults c.args.rig.now) (g.R.Rig.faults c.go_alive.new.rig) (g.R.Rig.faults c.start_joined.new.rig) c.args.self.now.shelf c.go_alive.new.self.shelf c.start_joined.new.self.shelf
+    c.go_alive.ensures.loses c.start_joined.ensures.loses
+
+pub returns-in-Err-Worn-clause-loses : goal.returns-in-Err-Worn-clause-loses
+returns-in-Err-Worn-clause-loses g c =
+    loses_on (g.R.Rig.faults c.args.rig.now) (g.R.Rig.faults c.go_alive.new.rig) (g.R.Rig.faults c.start_joined.new.rig) c.args.self.now.shelf c.go_alive.new.self.shelf c.start_joined.new.self.shelf
+    c.go_alive.ensures.loses c.start_joined.ensures.loses
+
+pub returns-in-Err-NoMemory-clause-loses : goal.returns-in-Err-NoMemory-clause-loses
+returns-in-Err-NoMemory-clause-loses g c =
+    loses_on (g.R.Rig.faults c.args.rig.now) (g.R.Rig.faults c.go_alive.new.rig) (g.R.Rig.faults c.start_joined.new.rig) c.args.self.now.shelf c.go_alive.new.self.shelf c.start_joined.new.self.shelf
+    c.go_alive.ensures.loses c.start_joined.ensures.loses
+
+pub returns-in-Ok-start_joined-clause-dated : goal.returns-in-Ok-start_joined-clause-dated
+returns-in-Ok-start_joined-clause-dated g c = ap (λ (m : PoolMap). last_epoch (map_of m).state.intervals) c.start_joined.ensures.same.0 ∙ c.in-Ok.ensures.dated
+
+pub returns-in-Err-Lost-clause-dated : goal.returns-in-Err-Lost-clause-dated
+returns-in-Err-Lost-clause-dated g c = ap (λ (m : PoolMap). last_epoch (map_of m).state.intervals) c.start_joined.ensures.same.0 ∙ c.in-Ok.ensures.dated
+
+pub returns-in-Ok-start_joined-clause-served : goal.returns-in-Ok-start_joined-clause-served
+returns-in-Ok-start_joined-clause-served g c state is =
+    let m = map_of c.args.self.now.map in
+    record {
+      is = ap map_of c.start_joined.ensures.same.0 ∙ c.in-Ok.ensures.step ∙ ap (λ e. map_after m (Alive e c.args.joined.0 c.args.base.now)) (sym c.requires.epoch);
+      started = λ p below member. c.in-Ok-start_joined.ensures.started p (subst (λ (x : Layout). p < x.n) (sym c.go_alive.ensures.same.1) below) member;
+      slots = λ p. c.in-Ok-start_joined.ensures.slots p ∙ ap (λ (x : Shelved). is_some (store_at x p)) c.go_alive.ensures.same.0;
+    }

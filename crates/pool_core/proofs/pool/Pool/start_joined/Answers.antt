@@ -6,6 +6,7 @@ use Rattle.pool_map.specs.declared.map.PoolMap.{PoolMap}
 use Rattle.pool_moves.specs.Contents.{Layout}
 use Rattle.pool_moves.specs.Ready.{IsReady, IsHeld}
 use Rattle.pool_moves.proofs.LoopLemmas.{far_none, far_past, far_slot, slot_run, held_now, count_same, count_less, ok_err}
+use Rattle.pool_moves.proofs.LosingLemmas.{loses_none, loses_on, same_slots}
 use Rattle.pool_core.specs.Pools.{layout_of}
 use Rattle.pool_core.specs.declared.activation.StartFault.TheVariants.{NoMemory}
 use Rattle.pool_core.proofs.pool.Pool.start_joined.Goals as goal
@@ -17,6 +18,8 @@ loop-p-init g c = record {
   layout = refl;
   least = refl;
   count = refl;
+  slots = λ p. refl;
+  loses = loses_none (g.R.Rig.faults c.args.rig.now) c.args.self.now.shelf;
   map_faults = refl;
   starting = far_none (layout_of c.args.self.now) g.R.Rig.is_here g.R.Rig.reads g.R.Rig.clock g.R.Rig.images c.args.rig.now c.args.self.now.map c.args.self.now.shelf c.args.joined.0 c.args.epoch c.args.base.now
       c.requires.ready c.requires.may;
@@ -53,12 +56,15 @@ loop-p-preserved g c =
           let started = w.in-Ok.ensures.started in
           let stays = w.in-Ok.ensures.ready fine in
           let same = w.start_slot.ensures.same.0 ∙ v.map in
+          let still = ap (λ (o : Option Store). is_some o) started.there ∙ sym (ap (λ (o : Option Store). is_some o) m.there) in
           rw (w.self-is, w.rig-is) (record {
             map = same;
             layout = w.start_slot.ensures.same.1 ∙ v.layout;
             least = w.start_slot.ensures.same.2 ∙ v.least;
-            count = count_same c.loop-p.self.shelf w.start_slot.new.self.shelf p 16 w.start_slot.ensures.others
-                (ap (λ (o : Option Store). is_some o) started.there ∙ sym (ap (λ (o : Option Store). is_some o) m.there)) ∙ v.count;
+            count = count_same c.loop-p.self.shelf w.start_slot.new.self.shelf p 16 w.start_slot.ensures.others still ∙ v.count;
+            slots = λ q. same_slots c.loop-p.self.shelf w.start_slot.new.self.shelf p w.start_slot.ensures.others still q ∙ v.slots q;
+            loses = loses_on (g.R.Rig.faults c.args.rig.now) (g.R.Rig.faults c.loop-p.rig) (g.R.Rig.faults w.start_slot.new.rig) s.shelf c.loop-p.self.shelf w.start_slot.new.self.shelf
+                v.loses w.start_slot.ensures.loses;
             map_faults = w.start_slot.ensures.map_faults ∙ v.map_faults;
             starting = far_slot (layout_of s) g.R.Rig.is_here g.R.Rig.reads g.R.Rig.clock g.R.Rig.images c.args.rig.now s.map s.shelf c.args.joined.0 c.args.epoch c.args.base.now
                 c.loop-p.rig w.start_slot.new.rig c.loop-p.self.shelf w.start_slot.new.self.shelf (layout_of c.loop-p.self) c.loop-p.self.map v.layout v.map p v.starting
@@ -71,6 +77,8 @@ loop-p-preserved g c =
             layout = v.layout;
             least = v.least;
             count = v.count;
+            slots = v.slots;
+            loses = v.loses;
             map_faults = v.map_faults;
             starting = far_past (layout_of s) g.R.Rig.is_here g.R.Rig.reads g.R.Rig.clock g.R.Rig.images c.args.rig.now s.map s.shelf c.args.joined.0 c.args.epoch c.args.base.now
                 c.loop-p.rig c.loop-p.self.shelf p (λ m. false≢true (sym w.if-has.false ∙ c.has.ensures.1 m)) v.starting;
@@ -106,3 +114,14 @@ returns-in-Err-clause-any_moment g c held newest =
     slot_run (layout_of s) g.R.Rig.is_here g.R.Rig.reads g.R.Rig.clock g.R.Rig.images c.args.rig.now s.map s.shelf c.args.joined.0 c.args.epoch c.args.base.now
     c.loop-p.rig c.start_slot.new.rig c.loop-p.self.shelf c.start_slot.new.self.shelf (layout_of c.loop-p.self) c.loop-p.self.map v.layout v.map c.loop-p.p v.starting
     (λ h n. c.start_slot.ensures.any_moment c.args.joined.0 h n (c.has.ensures.0 c.if-has.true)) held newest
+
+pub returns-clause-slots : goal.returns-clause-slots
+returns-clause-slots g c = c.loop-p.invariant.slots
+
+pub returns-clause-loses : goal.returns-clause-loses
+returns-clause-loses g c = c.loop-p.invariant.loses
+
+pub returns-in-Err-clause-loses : goal.returns-in-Err-clause-loses
+returns-in-Err-clause-loses g c =
+    loses_on (g.R.Rig.faults c.args.rig.now) (g.R.Rig.faults c.loop-p.rig) (g.R.Rig.faults c.start_slot.new.rig) c.args.self.now.shelf c.loop-p.self.shelf c.start_slot.new.self.shelf
+    c.loop-p.invariant.loses c.start_slot.ensures.loses

@@ -1,4 +1,4 @@
-use Rattle.std.proofs.Common.{◌≢◌, ◌∙◌, ℕ, sym, subst, arith}
+use Rattle.std.proofs.Common.{◌≢◌, ◌∙◌, inl, inr, ℕ, Option, Err, is_some, sym, ap, subst, arith}
 use Rattle.shard_store.specs.Stored.{told_in}
 use Rattle.shard_store.specs.declared.store.Store.{Store}
 use Rattle.pool_slots.specs.Ready.{IsReadyStore, IsHeldStore}
@@ -6,9 +6,11 @@ use Rattle.pool_slots.specs.Slots.{AddsRecord, start_steps}
 use Rattle.pool_moves.specs.Moves.{Starts}
 use Rattle.pool_moves.specs.Ready.{IsOwn}
 use Rattle.pool_moves.proofs.InstantLemmas.{runs_none}
+use Rattle.pool_moves.proofs.LosingLemmas.{loses_none, loses_slot}
 use Rattle.pool_moves.proofs.ReadyLemmas.{ready_on, held_on, never_none}
 use Rattle.pool_moves.proofs.SlotLemmas.{start_moments, own_later, ready_later, held_later, started_later, some_same, keeps_on}
 use Rattle.pool_core.specs.Pools.{layout_of}
+use Rattle.pool_core.proofs.StoreLemmas.{ok_failed, memory_failed}
 use Rattle.pool_core.proofs.pool.Pool.start_slot.Goals as goal
 
 pub returns-then-not-has_room-clause-ready : goal.returns-then-not-has_room-clause-ready
@@ -84,14 +86,14 @@ returns-in-Ok-clause-map_faults g c = c.start_stored.ensures.kept.counts.faults 
 pub returns-in-Err-NoMemory-clause-map_faults : goal.returns-in-Err-NoMemory-clause-map_faults
 returns-in-Err-NoMemory-clause-map_faults g c = c.start_stored.ensures.kept.counts.faults 16 (λ e. omega (arith, e, c.requires.slot))
 
-pub returns-in-Err-clause-map_faults : goal.returns-in-Err-clause-map_faults
-returns-in-Err-clause-map_faults g c = c.start_stored.ensures.kept.counts.faults 16 (λ e. omega (arith, e, c.requires.slot))
+pub returns-in-Err-Failed-clause-map_faults : goal.returns-in-Err-Failed-clause-map_faults
+returns-in-Err-Failed-clause-map_faults g c = c.start_stored.ensures.kept.counts.faults 16 (λ e. omega (arith, e, c.requires.slot))
 
-pub returns-in-Err-clause-others : goal.returns-in-Err-clause-others
-returns-in-Err-clause-others g c = keeps_on c.args.self.now.shelf c.start_stored.new.shelf c.drop_slot.new.self c.args.slot c.start_stored.ensures.others c.drop_slot.ensures.others
+pub returns-in-Err-Failed-clause-others : goal.returns-in-Err-Failed-clause-others
+returns-in-Err-Failed-clause-others g c = keeps_on c.args.self.now.shelf c.start_stored.new.shelf c.drop_slot.new.self c.args.slot c.start_stored.ensures.others c.drop_slot.ensures.others
 
-pub returns-in-Err-clause-ready : goal.returns-in-Err-clause-ready
-returns-in-Err-clause-ready g c fine =
+pub returns-in-Err-Failed-clause-ready : goal.returns-in-Err-Failed-clause-ready
+returns-in-Err-Failed-clause-ready g c fine =
     let m = c.requires.may in
     let r = c.requires.ready in
     let s = c.args.self.now in
@@ -115,8 +117,8 @@ returns-in-Err-clause-ready g c fine =
           l s.map s.shelf c.drop_slot.new.self keeps r.own held (λ store there. absurd (never_none store (sym c.drop_slot.ensures.value ∙ there)));
     }
 
-pub returns-in-Err-clause-any_moment : goal.returns-in-Err-clause-any_moment
-returns-in-Err-clause-any_moment g c joined held newest member =
+pub returns-in-Err-Failed-clause-any_moment : goal.returns-in-Err-Failed-clause-any_moment
+returns-in-Err-Failed-clause-any_moment g c joined held newest member =
     let m = c.requires.may in
     let r = c.requires.ready in
     start_moments g.R.Rig.clock g.R.Rig.images c.args.rig.now c.start_stored.new.rig (g.R.Rig.reads c.args.rig.now) c.texts_have_one_story.ensures c.texts_have_one_map.ensures
@@ -130,3 +132,28 @@ pub returns-then-not-has_room-clause-worn : goal.returns-then-not-has_room-claus
 returns-then-not-has_room-clause-worn g c worn =
     let m = c.requires.may in
     record { p = c.args.slot; store = m.store; there = m.there; full = c.has_room.ensures.full c.if-not-has_room.true m.store m.there }
+
+pub returns-then-not-has_room-clause-loses : goal.returns-then-not-has_room-clause-loses
+returns-then-not-has_room-clause-loses g c = loses_none (g.R.Rig.faults c.args.rig.now) c.args.self.now.shelf
+
+pub returns-in-Ok-clause-loses : goal.returns-in-Ok-clause-loses
+returns-in-Ok-clause-loses g c =
+    let m = c.requires.may in
+    let lent = c.in-Ok.ensures.lent m.store m.there in
+    loses_slot (g.R.Rig.faults c.args.rig.now) (g.R.Rig.faults c.start_stored.new.rig) c.args.self.now.shelf c.start_stored.new.shelf c.args.slot c.start_stored.ensures.others
+    c.start_stored.ensures.kept.counts.faults (inl (c.in-Ok.ensures.only_if_fault.quiet (ok_failed c.in-Ok.field-0))) (inl (ap (λ (o : Option Store). is_some o) lent.1))
+
+pub returns-in-Err-NoMemory-clause-loses : goal.returns-in-Err-NoMemory-clause-loses
+returns-in-Err-NoMemory-clause-loses g c =
+    let m = c.requires.may in
+    let lent = c.start_stored.ensures.lent m.store m.there in
+    loses_slot (g.R.Rig.faults c.args.rig.now) (g.R.Rig.faults c.start_stored.new.rig) c.args.self.now.shelf c.start_stored.new.shelf c.args.slot c.start_stored.ensures.others
+    c.start_stored.ensures.kept.counts.faults (inl (c.in-Err-NoMemory.ensures.only_if_fault.quiet (memory_failed c.in-Err-NoMemory.field-0 c.in-Err-NoMemory.field-0-is)))
+    (inl (ap (λ (o : Option Store). is_some o) lent.1))
+
+pub returns-in-Err-Failed-clause-loses : goal.returns-in-Err-Failed-clause-loses
+returns-in-Err-Failed-clause-loses g c =
+    let rose = c.in-Err-Failed.ensures.only_if_fault.failed (ap Err c.in-Err-Failed.field-0-is) in
+    loses_slot (g.R.Rig.faults c.args.rig.now) (g.R.Rig.faults c.start_stored.new.rig) c.args.self.now.shelf c.drop_slot.new.self c.args.slot
+    (keeps_on c.args.self.now.shelf c.start_stored.new.shelf c.drop_slot.new.self c.args.slot c.start_stored.ensures.others c.drop_slot.ensures.others)
+    c.start_stored.ensures.kept.counts.faults (inr rose) (inr rose)

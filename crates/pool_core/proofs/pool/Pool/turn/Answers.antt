@@ -1,4 +1,4 @@
-use Rattle.std.proofs.Common.{◌≡◌, ◌<◌, ◌∙◌, inl, inr, ℕ, Result, Option, Ok, Err, sym, ap, subst}
+use Rattle.std.proofs.Common.{◌≡◌, ◌<◌, ◌∙◌, inl, inr, ℕ, Result, Option, Ok, Err, refl, sym, ap, subst, arith}
 use Rattle.rig_disk.specs.During.{During}
 use Rattle.ec_words.specs.declared.mask.Mask.{Mask}
 use Rattle.auth_log.specs.Meanings.{state_of}
@@ -14,7 +14,8 @@ use Rattle.pool_moves.specs.Ready.{IsReady, AreOwn}
 use Rattle.pool_moves.specs.Turns.{AreComplete, stores_below}
 use Rattle.pool_moves.proofs.DecideLemmas.{may_serve}
 use Rattle.pool_moves.proofs.InstantLemmas.{runs_on, runs_wider}
-use Rattle.pool_moves.proofs.TurnLemmas.{up_is_below, epoch_is, has_begun_last}
+use Rattle.pool_moves.proofs.LosingLemmas.{loses_on}
+use Rattle.pool_moves.proofs.TurnLemmas.{up_is_below, epoch_is, has_begun_last, later_on}
 use Rattle.pool_core.specs.Pools.{layout_of}
 use Rattle.pool_core.specs.declared.fault.PoolFault.{PoolFault}
 use Rattle.pool_core.specs.declared.state.State.{State}
@@ -24,7 +25,8 @@ use Rattle.pool_map.specs.declared.fault.MapFault.TheVariants as map
 use Rattle.pool_core.specs.Faults.{HasTurnCause}
 use Rattle.pool_core.specs.declared.fault.PoolFault.TheVariants.{Worn}
 use Rattle.pool_core.proofs.FaultLemmas.{map_cause, still_ok, worn_fault, err_same, on_ok}
-use Rattle.pool_core.proofs.StateLemmas.{is_state, same_some, err_some, same_active, same_short, same_down, short_active, down_active, short_down}
+use Rattle.pool_core.specs.States.{HasTurned, meant_of, with_begun}
+use Rattle.pool_core.proofs.StateLemmas.{come_over, served_over, same_some, err_some, same_active}
 use Rattle.pool_core.proofs.pool.Pool.turn.Goals as goal
 
 pub begin-requires-clause-below : goal.begin-requires-clause-below
@@ -78,49 +80,101 @@ returns-in-Active-clause-active g c epoch joined is held =
     (subst (λ e. AreComplete (layout_of c.begin.new.self) images e joined.0) (sym same.0)
     (subst (λ (m : Mask). AreComplete (layout_of c.begin.new.self) images c.in-Ok.epoch m.0) (sym same.1) (both.1 (c.in-Ok.ensures.ready.held held))))
 
-pub returns-in-Err-clause-waits : goal.returns-in-Err-clause-waits
-returns-in-Err-clause-waits g c = record {
-  short = λ joined min e. absurd (err_some c.of_map.result (Short joined min) e);
-  down = λ epoch up e. absurd (err_some c.of_map.result (Down epoch up) e);
-}
+pub returns-in-Err-clause-turned : goal.returns-in-Err-clause-turned
+returns-in-Err-clause-turned g c state e = absurd (err_some c.of_map.result state e)
 
-pub returns-in-Down-clause-waits : goal.returns-in-Down-clause-waits
-returns-in-Down-clause-waits g c =
+pub returns-in-Down-clause-turned : goal.returns-in-Down-clause-turned
+returns-in-Down-clause-turned g c state e =
     let s = c.begin.new.self in
-    let m = map_of s.map in
+    let before = c.args.self.now in
+    let m = map_of before.map in
     let code = (goal.Code-dyn g c.args.code.now).meaning c.args.code.now.1 in
     let found = c.found-found.result in
+    let up = c.up-up.result.0 in
     let own = Down c.in-Down.epoch c.in-Down.up in
-    record {
-      short = λ joined min e. absurd (short_down joined c.in-Down.up min c.in-Down.epoch (sym (same_some own (Short joined min) e)));
-      down = λ epoch up e.
-          let same = same_down c.in-Down.epoch epoch c.in-Down.up up (same_some own (Down epoch up) e) in
-          is_state code (kept m.state) c.args.self.now.shelf s.shelf c.up-up.result.0 c.args.self.now.min_size s.min_size found.version c.found-found.ensures.0 (state_of found.state) (meant.Down epoch up.0)
-          c.begin.ensures.same.0 c.up-up.ensures c.begin.ensures.same.2 c.found-found.ensures.1
-          (ap state_of c.in-Down.is ∙ ap (λ x. meant.Down x c.in-Down.up.0) same.0 ∙ ap (λ (x : Mask). meant.Down epoch x.0) same.1);
-    }
+    subst (λ (x : State). HasTurned code before.n m (map_of s.map) before.shelf s.shelf before.min_size x) (same_some own state e) (record {
+      up = up;
+      are_up = c.up-up.ensures;
+      version = found.version;
+      holding = c.found-found.ensures.0;
+      come_to = come_over code m (map_of s.map) before.shelf s.shelf up before.min_size s.min_size found.version c.found-found.ensures.0 (state_of found.state) (meant_of own)
+          c.in-Ok.ensures.step.0 c.begin.ensures.same.0 c.begin.ensures.same.2 (ap state_of c.in-Down.is) c.found-found.ensures.1;
+      followed = (c.in-Ok.ensures.step.0, c.begin.ensures.same.0);
+    })
 
-pub returns-in-Short-clause-waits : goal.returns-in-Short-clause-waits
-returns-in-Short-clause-waits g c =
+pub returns-in-Short-clause-turned : goal.returns-in-Short-clause-turned
+returns-in-Short-clause-turned g c state e =
     let s = c.begin.new.self in
-    let m = map_of s.map in
+    let before = c.args.self.now in
+    let m = map_of before.map in
     let code = (goal.Code-dyn g c.args.code.now).meaning c.args.code.now.1 in
     let found = c.found-found.result in
+    let up = c.up-up.result.0 in
     let own = Short c.in-Short.joined c.in-Short.min in
-    record {
-      short = λ joined min e.
-          let same = same_short c.in-Short.joined joined c.in-Short.min min (same_some own (Short joined min) e) in
-          is_state code (kept m.state) c.args.self.now.shelf s.shelf c.up-up.result.0 c.args.self.now.min_size s.min_size found.version c.found-found.ensures.0 (state_of found.state) (meant.Short joined.0 min)
-          c.begin.ensures.same.0 c.up-up.ensures c.begin.ensures.same.2 c.found-found.ensures.1
-          (ap state_of c.in-Short.is ∙ ap (λ (x : Mask). meant.Short x.0 c.in-Short.min) same.0 ∙ ap (λ x. meant.Short joined.0 x) same.1);
-      down = λ epoch up e. absurd (short_down c.in-Short.joined up c.in-Short.min epoch (same_some own (Down epoch up) e));
-    }
+    subst (λ (x : State). HasTurned code before.n m (map_of s.map) before.shelf s.shelf before.min_size x) (same_some own state e) (record {
+      up = up;
+      are_up = c.up-up.ensures;
+      version = found.version;
+      holding = c.found-found.ensures.0;
+      come_to = come_over code m (map_of s.map) before.shelf s.shelf up before.min_size s.min_size found.version c.found-found.ensures.0 (state_of found.state) (meant_of own)
+          c.in-Ok.ensures.step.0 c.begin.ensures.same.0 c.begin.ensures.same.2 (ap state_of c.in-Short.is) c.found-found.ensures.1;
+      followed = (c.in-Ok.ensures.step.0, c.begin.ensures.same.0);
+    })
 
-pub returns-in-Active-clause-waits : goal.returns-in-Active-clause-waits
-returns-in-Active-clause-waits g c = record {
-  short = λ joined min e. absurd (short_active joined c.in-Active.joined min c.in-Ok.epoch (c.serve.ensures.active (Short joined min) e).0);
-  down = λ epoch up e. absurd (down_active up c.in-Active.joined epoch c.in-Ok.epoch (c.serve.ensures.active (Down epoch up) e).0);
-}
+pub returns-in-Active-clause-turned : goal.returns-in-Active-clause-turned
+returns-in-Active-clause-turned g c state e =
+    let s = c.begin.new.self in
+    let before = c.args.self.now in
+    let m = map_of before.map in
+    let code = (goal.Code-dyn g c.args.code.now).meaning c.args.code.now.1 in
+    let found = c.found-found.result in
+    let up = c.up-up.result.0 in
+    let own = Active c.in-Ok.epoch c.in-Active.joined in
+    let both = c.serve.ensures.active state e in
+    let last = c.serve.new.self in
+    subst (λ (x : State). HasTurned code before.n m (map_of last.map) before.shelf last.shelf before.min_size x) (sym both.0) (record {
+      up = up;
+      are_up = c.up-up.ensures;
+      version = found.version;
+      holding = c.found-found.ensures.0;
+      come_to = come_over code m (map_of s.map) before.shelf s.shelf up before.min_size s.min_size found.version c.found-found.ensures.0 (state_of found.state) (meant_of own)
+          c.in-Ok.ensures.step.0 c.begin.ensures.same.0 c.begin.ensures.same.2 (ap state_of c.in-Active.is) c.found-found.ensures.1;
+      followed = (
+        c.in-Ok.ensures.epoch ∙ sym (epoch_is m (with_begun m up) up refl),
+        served_over (with_begun m up) (map_of s.map) (map_of last.map) before.shelf s.shelf last.shelf before.n s.n c.in-Ok.epoch c.in-Active.joined.0 found.version
+            c.in-Ok.ensures.step.0 c.begin.ensures.same.0 (ap (λ (x : Layout). x.n) c.begin.ensures.same.1) (c.serve.ensures.served state e),
+      );
+    })
+
+pub returns-in-Down-clause-later : goal.returns-in-Down-clause-later
+returns-in-Down-clause-later g c =
+    let dated = epoch_is (map_of c.args.self.now.map) (map_of c.begin.new.self.map) c.up-up.result.0 c.in-Ok.ensures.step.0 in
+    omega (arith, dated)
+
+pub returns-in-Short-clause-later : goal.returns-in-Short-clause-later
+returns-in-Short-clause-later g c =
+    let dated = epoch_is (map_of c.args.self.now.map) (map_of c.begin.new.self.map) c.up-up.result.0 c.in-Ok.ensures.step.0 in
+    omega (arith, dated)
+
+pub returns-in-Active-clause-later : goal.returns-in-Active-clause-later
+returns-in-Active-clause-later g c =
+    let before = map_of c.args.self.now.map in
+    let dated = epoch_is before (map_of c.begin.new.self.map) c.up-up.result.0 c.in-Ok.ensures.step.0 in
+    on_ok c.serve.result (λ same. later_on before (map_of c.begin.new.self.map) (map_of c.serve.new.self.map) dated same) c.serve.ensures.dated
+
+pub returns-in-Err-clause-loses : goal.returns-in-Err-clause-loses
+returns-in-Err-clause-loses g c = c.begin.ensures.loses
+
+pub returns-in-Down-clause-loses : goal.returns-in-Down-clause-loses
+returns-in-Down-clause-loses g c = c.begin.ensures.loses
+
+pub returns-in-Short-clause-loses : goal.returns-in-Short-clause-loses
+returns-in-Short-clause-loses g c = c.begin.ensures.loses
+
+pub returns-in-Active-clause-loses : goal.returns-in-Active-clause-loses
+returns-in-Active-clause-loses g c =
+    loses_on (g.R.Rig.faults c.args.rig.now) (g.R.Rig.faults c.begin.new.rig) (g.R.Rig.faults c.serve.new.rig) c.args.self.now.shelf c.begin.new.self.shelf c.serve.new.self.shelf
+    c.begin.ensures.loses c.serve.ensures.loses
 
 pub returns-in-Err-clause-worn : goal.returns-in-Err-clause-worn
 returns-in-Err-clause-worn g c is =
