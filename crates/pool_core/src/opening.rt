@@ -1,5 +1,5 @@
 //! The opening of a pool: its slots are read.
-ghost use Rattle.std.specs.Prelude.{◌≡◌, ◌≢◌, ◌↔◌, ◌<◌, ◌≤◌, ℕ, List, Some, IsTrue, IfOk, IfErr, OnOk};
+ghost use Rattle.std.specs.Prelude.{◌≡◌, ◌≢◌, ◌↔◌, ◌⊎◌, ◌<◌, ◌≤◌, ℕ, List, Some, None, true, is_some, IsTrue, IfOk, IfErr, OnOk};
 ghost use Rattle.ec_code.specs.Refusals.{IsAccepted, IsCodeOf};
 ghost use Rattle.ec_code.specs.Shapes.{HasShape};
 ghost use Rattle.ec_model.specs.Codes.{CodeRows, IsCode, HasPosition};
@@ -7,8 +7,9 @@ ghost use Rattle.plugin_reg.specs.Canonical.{least_of};
 ghost use Rattle.pool_map.specs.Calls.{IsReady as MayStep};
 ghost use Rattle.pool_map.specs.Pool.{map_of};
 ghost use Rattle.rig_disk.specs.During.{During};
-ghost use Rattle.shard_store.specs.Shelves.{KeepsStores};
+ghost use Rattle.shard_store.specs.Shelves.{store_at, KeepsStores};
 ghost use Rattle.slot_journal.specs.InUse.{told_text};
+ghost use Rattle.pool_moves.specs.Finding.{AreFound, IsLost};
 ghost use Rattle.pool_moves.specs.Opening.{AreTold};
 ghost use Rattle.pool_moves.specs.Ready.{IsReady, IsHeld, IsHeldMap};
 ghost use Rattle.pool_core.specs.Pools.{layout_of};
@@ -19,7 +20,7 @@ use ec_code::{Code, Profile, Shape, default_min};
 use ec_words::{Geometry, Mask};
 use pool_map::{PoolMap, maps_stay_held};
 use rig_disk::Rig;
-use shard_store::{Shelf, Store, StoreFault, stores_stay_stored};
+use shard_store::{Shelf, Store, StoreFault, bad_texts_have_no_story, stores_stay_stored};
 use std::alloc::Global;
 
 /// Whether a slot is here, and not one of those that are marked as down.
@@ -27,6 +28,7 @@ fn may_load<R: Rig>(rig: &R, marked: Mask, p: u8) -> bool
     requires { p < 16 }
     ensures here { IsTrue result → R.is_here rig.now p }
     ensures unmarked { IsTrue result → HasPosition marked.0 p → ⊥ }
+    ensures all { R.is_here rig.now p → (HasPosition marked.0 p → ⊥) → IsTrue result }
 {
     if marked.has(p) {
         return false;
@@ -83,6 +85,8 @@ impl Pool {
         ensures held { IfOk result (λ pool. AreTold (R.is_here rig.old) (R.reads rig.old) (meaning code.now).n
             → IsHeldMap (R.reads rig.old) (R.images rig.old (R.clock rig.old)) map
             → IsHeld (R.reads rig.new) (R.images rig.new (R.clock rig.new)) pool.map pool.shelf) }
+        ensures found { IfOk result (λ pool. AreFound (layout_of pool) (map_of map).state.marks (R.is_here rig.old) (R.reads rig.old)
+            (R.faults rig.old) (R.faults rig.new) pool.shelf pool.n) }
         ensures faults { IfErr result (λ fault. fault ≡ PoolFault.NoMemory) }
         ensures any_moment { During R.clock R.images rig.old rig.new (λ image said. R.images rig.old (R.clock rig.old) image said) }
     {
@@ -116,23 +120,33 @@ impl Pool {
         ensures held { OnOk result ((text : List ℕ) → told_text slot (R.reads rig.old slot) ≡ Some text
             → IsHeld (R.reads rig.old) (R.images rig.old (R.clock rig.old)) self.old.map self.old.shelf
             → IsHeld (R.reads rig.new) (R.images rig.new (R.clock rig.new)) self.new.map self.new.shelf) }
+        ensures found { OnOk result ((is_some (store_at self.new.shelf slot) ≡ true)
+            ⊎ IsLost (layout_of self.old) (R.reads rig.old) (R.faults rig.old) (R.faults rig.new) slot) }
         ensures faults { IfErr result (λ fault. fault ≡ PoolFault.NoMemory) }
+        ensures others { KeepsStores self.old.shelf self.new.shelf slot }
+        ensures counts { (s : ℕ) → s ≢ slot → R.faults rig.new s ≡ R.faults rig.old s }
         ensures here { (s : ℕ) → R.is_here rig.old s ↔ R.is_here rig.new s }
         ensures reads { (s a : ℕ) → s ≢ slot → R.reads rig.new s a ≡ R.reads rig.old s a }
         ensures any_moment { During R.clock R.images rig.old rig.new (λ image said. R.images rig.old (R.clock rig.old) image said) }
     {
         maps_stay_held::<R>();
         stores_stay_stored::<R>();
+        bad_texts_have_no_story();
         match Store::load(alloc, rig, slot, self.geometry, self.n) {
             Ok(store) => {
                 self.shelf.put(slot, store);
                 Ok(())
             }
             Err(StoreFault::NoMemory) => Err(PoolFault::NoMemory),
-            Err(_) => {
+            Err(StoreFault::Failed) => {
                 self.shelf.drop_slot(slot);
                 Ok(())
             }
+            Err(StoreFault::BadSlot { .. }) => {
+                self.shelf.drop_slot(slot);
+                Ok(())
+            }
+            Err(StoreFault::Spent) => unreachable!(),
         }
     }
 
@@ -140,6 +154,7 @@ impl Pool {
     pub(crate) fn load_slots<R: Rig>(&mut self, alloc: Global, rig: &mut R) -> Result<(), PoolFault>
         requires ready { IsReady (layout_of self.old) (R.is_here rig.old) (R.reads rig.old) (R.images rig.old (R.clock rig.old))
             self.old.map self.old.shelf }
+        requires empty { (p : ℕ) → store_at self.old.shelf p ≡ None }
 
         ensures same { (self.new.map ≡ self.old.map) × (layout_of self.new ≡ layout_of self.old)
             × (self.new.min_size ≡ self.old.min_size) }
@@ -148,6 +163,8 @@ impl Pool {
         ensures held { OnOk result (AreTold (R.is_here rig.old) (R.reads rig.old) self.old.n
             → IsHeld (R.reads rig.old) (R.images rig.old (R.clock rig.old)) self.old.map self.old.shelf
             → IsHeld (R.reads rig.new) (R.images rig.new (R.clock rig.new)) self.new.map self.new.shelf) }
+        ensures found { OnOk result (AreFound (layout_of self.old) (map_of self.old.map).state.marks (R.is_here rig.old) (R.reads rig.old)
+            (R.faults rig.old) (R.faults rig.new) self.new.shelf self.old.n) }
         ensures faults { IfErr result (λ fault. fault ≡ PoolFault.NoMemory) }
         ensures any_moment { During R.clock R.images rig.old rig.new (λ image said. R.images rig.old (R.clock rig.old) image said) }
     {

@@ -1,5 +1,5 @@
 -- One slot more is read as a pool is opened, or none.
-use Rattle.std.proofs.Common.{◌≡◌, ◌≢◌, ◌⊎◌, ◌≤◌, ◌<◌, ◌+◌, ◌==◌, inl, inr, ℕ, Bool, true, false, is_some, List, Option, Some, None, refl, sym, ap, subst, ◌∙◌, arith, eq-eqb}
+use Rattle.std.proofs.Common.{◌≡◌, ◌≢◌, ◌⊎◌, ◌≤◌, ◌<◌, ◌+◌, ◌==◌, inl, inr, ⊎_elim, ℕ, Bool, true, false, is_some, List, Option, Some, None, refl, sym, ap, subst, ◌∙◌, arith, eq-eqb}
 use Rattle.std.proofs.lemmas.Bool.{eqb-true, false≢true}
 use Rattle.ec_model.specs.Codes.{HasPosition}
 use Rattle.rig_disk.specs.Faults.{Rose}
@@ -10,7 +10,14 @@ use Rattle.shard_store.specs.declared.store.Store.{Store}
 use Rattle.shard_store.specs.Stories.{shard_head}
 use Rattle.pool_moves.specs.Contents.{Layout, IsShardOf}
 use Rattle.pool_moves.specs.Finding.{AreFound, IsLost}
+use Rattle.pool_moves.proofs.ContentLemmas.{same_told}
 use Rattle.pool_moves.proofs.ReadyLemmas.{never_none}
+
+-- a slot that is lost by what it reads now, which is what it read before
+pub lost_over : (l k : Layout) (reads_now reads : ℕ → ℕ → Option (List ℕ)) (before now : ℕ → ℕ) (p : ℕ) → k ≡ l → ((a : ℕ) → reads_now p a ≡ reads p a)
+    → IsLost k reads_now before now p → IsLost l reads before now p
+lost_over l k reads_now reads before now p same_l same lost = subst (λ (x : Layout). IsLost x reads before now p) same_l
+    (⊎_elim (λ rose. inl rose) (λ none. inr (λ text told. none text (same_told p (reads_now p) (reads p) same ∙ told))) lost)
 
 module _ (l : Layout) (marks : ℕ) (is_here : ℕ → Type 0) (reads : ℕ → ℕ → Option (List ℕ)) (before : ℕ → ℕ) where
   pub found_none : (shelf : Shelved) → ((s : ℕ) → store_at shelf s ≡ None) → AreFound l marks is_here reads before before shelf 0
