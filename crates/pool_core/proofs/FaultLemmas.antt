@@ -13,9 +13,9 @@ pub err_same : {S : Type 0} (fault other : PoolFault) → ◌≡◌ {A = Result 
 err_same {S} fault other e = cc
 
 -- the count stands still unless the map's slot failed
-pub still : {T : Type 0} (before now : ℕ) (result : Result T PoolFault) → (result ≡ Err MapFailed → ⊥)
-    → IfErr result (λ fault. (fault ≡ MapFailed) ⊎ ((fault ≡ Worn) ⊎ (fault ≡ NoMemory))) → now ≡ before → HasTurnCause before now result
-still before now result apart plain same = record { failed = λ e. absurd (apart e); quiet = λ free. same; plain = plain }
+pub still : {T : Type 0} (before now : ℕ) (result : Result T PoolFault) → (result ≡ Err MapFailed → ⊥) → now ≡ before
+    → HasTurnCause before now result
+still before now result apart same = record { failed = λ e. absurd (apart e); quiet = λ free. same }
 
 worn_apart : {T : Type 0} → ◌≡◌ {A = Result T PoolFault} (Err Worn) (Err MapFailed) → ⊥
 worn_apart {T} e = cc
@@ -27,13 +27,13 @@ pub ok_apart : {T : Type 0} (x : T) → ◌≡◌ {A = Result T PoolFault} (Ok x
 ok_apart {T} x e = cc
 
 pub still_ok : {T : Type 0} (before now : ℕ) (x : T) → now ≡ before → HasTurnCause before now (Ok x)
-still_ok {T} before now x same = still before now (Ok x) (ok_apart x) tt same
+still_ok {T} before now x same = still before now (Ok x) (ok_apart x) same
 
 pub still_worn : {T : Type 0} (before now : ℕ) → now ≡ before → HasTurnCause {T = T} before now (Err Worn)
-still_worn {T} before now same = still before now (Err Worn) worn_apart (inr (inl refl)) same
+still_worn {T} before now same = still before now (Err Worn) worn_apart same
 
 pub still_memory : {T : Type 0} (before now : ℕ) → now ≡ before → HasTurnCause {T = T} before now (Err NoMemory)
-still_memory {T} before now same = still before now (Err NoMemory) memory_apart (inr (inr refl)) same
+still_memory {T} before now same = still before now (Err NoMemory) memory_apart same
 
 map_failed : {T : Type 0} (fault : MapFault) → fault ≡ map.Failed → ◌≡◌ {A = Result T MapFault} (Err fault) (Err map.Failed)
 map_failed fault is = ap Err is
@@ -51,7 +51,6 @@ map_cause {S} {T} before now fault which cause = ⊎_elim
     (λ failed. record {
       failed = λ e. cause.failed (map_failed fault failed);
       quiet = λ free. absurd (free (ap (λ (f : MapFault). Err (pool_fault f)) failed));
-      plain = inl (ap pool_fault failed);
     })
     (λ rest. ⊎_elim
     (λ worn. subst (λ (f : PoolFault). HasTurnCause {T = T} before now (Err f)) (sym (ap pool_fault worn)) (still_worn before now (cause.quiet (map_worn fault worn))))
@@ -64,7 +63,6 @@ pub cause_as : {S T : Type 0} (before mid now : ℕ) (fault : PoolFault) → mid
 cause_as {S} {T} before mid now fault same cause = record {
   failed = λ e. subst (λ n. Rose n now) same (cause.failed (ap Err (err_same fault MapFailed e)));
   quiet = λ free. cause.quiet (λ e. free (ap Err (err_same fault MapFailed e))) ∙ same;
-  plain = cause.plain;
 }
 
 -- a step of the map that was worn

@@ -1,5 +1,5 @@
 -- The instants of the making of a pool: its shards are made first, and its map last.
-use Rattle.std.proofs.Common.{◌≡◌, ◌≢◌, ◌<◌, ◌⊎◌, inl, inr, ⊎_elim, ◌≤◌, nat_lt, if◌then◌else◌, ℕ, Bool, true, false, List, Option, Some, None, sym, ap, subst, arith}
+use Rattle.std.proofs.Common.{◌≡◌, ◌≢◌, ◌<◌, inl, inr, ⊎_elim, ◌≤◌, nat_lt, if◌then◌else◌, ℕ, Bool, true, false, List, Option, Some, None, sym, ap, subst, arith}
 use Rattle.std.proofs.lemmas.Bool.Decides.{nat_tests}
 use Rattle.ec_code.specs.declared.profile.Profile.{Profile}
 use Rattle.rig_disk.specs.Disk.{Image}

@@ -1,5 +1,5 @@
 -- One slot more is read as a pool is opened, or none.
-use Rattle.std.proofs.Common.{◌≡◌, ◌≢◌, ◌⊎◌, ◌≤◌, ◌<◌, ◌+◌, ◌==◌, inl, inr, ⊎_elim, ℕ, Bool, true, false, is_some, List, Option, Some, None, refl, sym, ap, subst, ◌∙◌, arith, eq-eqb}
+use Rattle.std.proofs.Common.{◌≡◌, ◌≢◌, ◌⊎◌, ◌<◌, ◌+◌, ◌==◌, inl, inr, ⊎_elim, ℕ, Bool, true, false, is_some, List, Option, Some, None, refl, sym, subst, ◌∙◌, arith, eq-eqb}
 use Rattle.std.proofs.lemmas.Bool.{eqb-true, false≢true}
 use Rattle.ec_model.specs.Codes.{HasPosition}
 use Rattle.rig_disk.specs.Faults.{Rose}

@@ -1,5 +1,5 @@
 -- What each image of now has, if a store or a map is held.
-use Rattle.std.proofs.Common.{◌≡◌, ◌++◌, [], ℕ, List, Option, sym, subst}
+use Rattle.std.proofs.Common.{◌≡◌, [], ℕ, List, Option, sym, subst}
 use Rattle.rig_disk.specs.Disk.{Image}
 use Rattle.shard_model.specs.Steps.{Step}
 use Rattle.slot_journal.specs.InUse.{text_in_use}

@@ -1,5 +1,5 @@
 -- Slots that lose their stores, over calls one after another.
-use Rattle.std.proofs.Common.{◌≡◌, ◌≢◌, ◌⊎◌, ◌≤◌, ◌<◌, ◌+◌, ◌-◌, ◌^◌, ◌==◌, inl, inr, ⊎_elim, ℕ, Bool, true, false, is_some, Option, min, refl, sym, ap, subst, ◌∙◌, arith, eq-eqb}
+use Rattle.std.proofs.Common.{◌≡◌, ◌≢◌, ◌⊎◌, ◌≤◌, ◌+◌, ◌-◌, ◌^◌, ◌==◌, inl, inr, ⊎_elim, ℕ, Bool, true, false, is_some, Option, min, refl, sym, ap, subst, ◌∙◌, arith, eq-eqb}
 use Rattle.std.proofs.lemmas.Bool.{eqb-true, false≢true}
 use Rattle.rig_disk.specs.Faults.{Rose}
 use Rattle.shard_store.specs.Shelved.{Shelved}

@@ -1,5 +1,5 @@
 -- One round more of a start.
-use Rattle.std.proofs.Common.{◌≡◌, ◌<◌, ◌+◌, ℕ, List, Option, Some, Result, Ok, subst, arith}
+use Rattle.std.proofs.Common.{◌≡◌, ◌<◌, ◌+◌, ℕ, List, Option, subst, arith}
 use Rattle.ec_model.specs.Codes.{CodeRows}
 use Rattle.rig_disk.specs.Disk.{Image}
 use Rattle.rig_disk.specs.During.{During}
@@ -13,10 +13,6 @@ use Rattle.pool_moves.specs.Rounds.{AreGone}
 use Rattle.pool_moves.specs.Turns.{stores_below}
 use Rattle.pool_moves.proofs.InstantLemmas.{runs_on, runs_none}
 use Rattle.pool_moves.proofs.LoopLemmas.{count_few}
-
--- what a turn said is what the start says
-pub said_on : {T E : Type 0} (found : Option T) (one other : T) → found ≡ Some one → ◌≡◌ {A = Result T E} (Ok one) (Ok other) → ◌≡◌ {A = Result (Option T) E} (Ok found) (Ok (Some other))
-said_on {T} {E} found one other is same = cc
 
 module _ {R : Type 0} (code : CodeRows) (l : Layout) (is_here : R → ℕ → Type 0) (reads_of : R → ℕ → ℕ → Option (List ℕ)) (clock_of : R → ℕ) (images_of : R → ℕ → Image → List ℕ → Type 0)
     (old : R) (map : PoolMap) (shelf : Shelved) where

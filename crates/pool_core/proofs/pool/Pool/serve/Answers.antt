@@ -127,7 +127,6 @@ pub returns-in-Err-clause-only_if_fault : goal.returns-in-Err-clause-only_if_fau
 returns-in-Err-clause-only_if_fault g c = record {
   failed = λ e. c.in-Err.ensures.only_if_fault.failed (ap Err c.in-Err.ensures.faults);
   quiet = λ free. absurd (free refl);
-  plain = inl refl;
 }
 
 pub returns-in-Ok-start_joined-clause-only_if_fault : goal.returns-in-Ok-start_joined-clause-only_if_fault
