@@ -1,6 +1,7 @@
 mod CommandLemmas
 mod KeptLemmas
 pub mod LineLemmas
+mod ListingLemmas
 mod MapLemmas
 pub mod OverlayLemmas
 mod ProfileLemmas

@@ -1,12 +1,20 @@
 -- Bytes that are put into an object, by where they end.
-use Rattle.std.proofs.Common.{◌≡◌, ℕ, ◌+◌, ◌-◌, ◌<◌, ◌≤◌, ◌==◌, Bool, List, ◌++◌, take, drop, replicate, length, length-append, append-nil, sym, ap, ◌∙◌, arith, if◌then◌else◌}
-use Rattle.std.proofs.lemmas.Bool.{ne_eqb}
+use Rattle.std.proofs.Common.{◌≡◌, ℕ, ◌+◌, ◌-◌, ◌<◌, ◌≤◌, ◌==◌, Bool, true, false, zero, suc, List, ◌++◌, take, drop, replicate, length, length-append, append-nil, sym, ap, ◌∙◌, arith, if◌then◌else◌}
+use Rattle.std.proofs.lemmas.Bool.{eqb-true, ne_eqb, true≢false}
 use Rattle.std.proofs.lemmas.List.{length-replicate, length-take, drop_all}
 use Rattle.shard_model.specs.Changes.{resized}
 use Rattle.ec_positions.specs.Updates.{overlaid}
 
 pub no_bytes_written : (off : ℕ) (bytes old : List ℕ) → length bytes ≡ 0 → overlaid off bytes old ≡ old
 no_bytes_written off bytes old none = ap (λ n. if n == 0 then old else (resized off old ++ bytes) ++ drop (off + length bytes) old) none
+
+-- a test whether there are none
+pub none_if : (empty : Bool) (n m : ℕ) → empty ≡ (n == 0) → empty ≡ true → n ≡ m → m ≡ 0
+none_if empty n m is holds same = sym same ∙ eqb-true n 0 (sym is ∙ holds)
+
+pub some_if : (empty : Bool) (n m : ℕ) → empty ≡ (n == 0) → empty ≡ false → n ≡ m → 1 ≤ m
+some_if empty zero m is holds same = absurd (true≢false (sym is ∙ holds))
+some_if empty (suc n) m is holds same = omega (arith, same)
 
 some_written : (off : ℕ) (bytes old : List ℕ) → 1 ≤ length bytes → overlaid off bytes old ≡ (resized off old ++ bytes) ++ drop (off + length bytes) old
 some_written off bytes old some =

@@ -16,6 +16,7 @@ is_served (Client (Updates (Full name bytes))) = true
 is_served (Client (Updates (Delete name))) = true
 is_served (Client (Get name)) = true
 is_served (Client (Stat name)) = true
+is_served (Client ListObjects) = true
 is_served (Client Flush) = true
 is_served others = false
 

@@ -117,7 +117,7 @@ fn is_served(line: &Line) -> bool
 {
     match line {
         Line::Append { .. } | Line::Write { .. } | Line::Full { .. } | Line::Delete { .. } => true,
-        Line::Get { .. } | Line::Stat { .. } | Line::Flush => true,
+        Line::Get { .. } | Line::Stat { .. } | Line::ListObjects | Line::Flush => true,
         _ => false,
     }
 }

@@ -7,7 +7,7 @@ ghost use Rattle.ec_model.specs.Codes.{CodeRows};
 ghost use Rattle.ec_positions.specs.Objects.{Objects as ObjectMap, bytes_in, max_objects, max_usage, usage};
 ghost use Rattle.ec_positions.specs.Updates.{Append, WriteAt, Full, Delete, after};
 ghost use Rattle.ec_positions.specs.Refusals.{TooManyObjects, TooFull, first_of, refusal_of};
-ghost use Rattle.ec_positions.specs.Commands.{Updates, Get, Stat, Refused};
+ghost use Rattle.ec_positions.specs.Commands.{Updates, Get, Stat, ListObjects, Refused};
 ghost use Rattle.pool_run.specs.Lines.{command_in, is_served, line_shown};
 ghost use Rattle.pool_run.specs.Replies.{shown};
 ghost use Rattle.pool_run.specs.Served.{Serves};
@@ -72,6 +72,7 @@ impl Objects {
             Line::Delete { name } => Ok(self.delete(&name)),
             Line::Get { name } => self.get(&name, code, unit),
             Line::Stat { name } => self.stat(&name),
+            Line::ListObjects => self.list(),
             Line::Flush => Ok(Reply::done(self.alloc)),
             _ => unreachable!(),
         }
@@ -220,6 +221,18 @@ impl Objects {
             Some(size) => Reply::of_number(self.alloc, size),
             None => Ok(Reply::Absent),
         }
+    }
+
+    // All names in their order, with the sizes of their objects.
+    fn list(&self) -> Result<Reply, NoMemory>
+        ensures { IfOk result (λ reply. (code : CodeRows) (unit : ℕ) → Serves code unit (Some ListObjects) self.now self.now reply) }
+    {
+        let mut entries = Vec::new(self.alloc);
+        for (name, object) in self.objects.iter() {
+            let name = name.copy(self.alloc)?;
+            entries.push((name, object.size()))?;
+        }
+        Ok(Reply::Listing(entries))
     }
 
     // The bytes of the object of this name; none if it is not there.

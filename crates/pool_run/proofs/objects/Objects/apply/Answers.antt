@@ -22,3 +22,12 @@ returns-in-Stat-clause-done g c =
     subst (λ (command : Option Command). Serves code c.args.unit command c.args.self.now c.args.self.now reply)
     (sym (ap (λ line. command_in (line_shown line)) c.in-Stat.is)) (serves code c.args.unit))
     c.stat.ensures
+
+pub returns-in-ListObjects-clause-done : goal.returns-in-ListObjects-clause-done
+returns-in-ListObjects-clause-done g c =
+    let code = (goal.Code-dyn g c.args.code.now).meaning c.args.code.now.1 in
+    IfOk-weaker c.list.result _ _
+    (λ reply serves.
+    subst (λ (command : Option Command). Serves code c.args.unit command c.args.self.now c.args.self.now reply)
+    (sym (ap (λ line. command_in (line_shown line)) c.in-ListObjects.is)) (serves code c.args.unit))
+    c.list.ensures
