@@ -1,4 +1,5 @@
 pub mod AfterFlushLemmas
+pub mod AgainLemmas
 pub mod AttrLemmas
 pub mod ChangeLemmas
 pub mod CheckLemmas

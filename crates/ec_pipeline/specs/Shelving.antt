@@ -1,11 +1,12 @@
 -- What a call leaves of the stores of a shelf. Source: this project.
-use Rattle.std.specs.Prelude.{◌≡◌, ◌<◌, ℕ, Option}
+use Rattle.std.specs.Prelude.{◌≡◌, ◌<◌, ℕ, List, Option}
 use Rattle.ec_model.specs.Codes.{HasPosition}
+use Rattle.shard_model.specs.Steps.{Step}
 use Rattle.shard_store.specs.OnSlot.{ChangesAt}
 use Rattle.shard_store.specs.Shelved.{Shelved}
 use Rattle.shard_store.specs.Shelves.{store_at, fetched_on}
 use Rattle.shard_store.specs.Stored.{Becomes, told_in}
-use Rattle.shard_store.specs.Told.{Told}
+use Rattle.shard_store.specs.Told.{Told, IsTold}
 use Rattle.shard_store.specs.declared.store.Store.{Store}
 
 -- if a slot has a store, it was told what f makes of what it was told before
@@ -28,3 +29,8 @@ pub record AreTaking (f : ℕ → Told → Told) (set : ℕ) (old new : Shelved)
 pub record AreSame (old new : Shelved) : Type 0 where
   pub stores : (s : ℕ) → BecomesAt (λ t. t) (store_at old s) (store_at new s)
   pub fetched : (s : ℕ) → fetched_on new s ≡ fetched_on old s
+
+-- the steps that a store has in records it has there still, and those that it has accepted lead to what it was told
+abbrev pub TellsOn : Option Store → Option Store → Type 0
+TellsOn =
+    ChangesAt (λ before now. (flushed pending : List Step) → IsTold (told_in before) flushed pending → (more : List Step) × IsTold (told_in now) flushed more)

@@ -202,7 +202,7 @@ fn are_bytes(update: &Update)
 }
 
 /// Makes a checked update on each joined slot, or leaves all stores as they were. `queued` updates are not flushed yet.
-pub fn make_change<R: Rig>(
+pub(crate) fn make_change<R: Rig>(
     alloc: Global,
     shelf: &mut Shelf,
     rig: &mut R,
@@ -227,6 +227,9 @@ pub fn make_change<R: Rig>(
     ensures ready { OnOk result (AreReady (meaning code.now).k (queued + 1) joined.0 shelf.new) }
     ensures slot { (s : ℕ) → IsErrOf result (PrepareFault.Slot s) → Rose (R.faults rig.old s) (R.faults rig.new s)
         ⊎ Hinders (meaning code.now) joined.0 shelf.old (update_of update.now) checked.now s }
+    ensures idle { AreIdle (R.is_here rig.new) (R.reads rig.new) (R.images rig.new (R.clock rig.new)) joined.0 shelf.new }
+    ensures stored { AreStored (R.reads rig.old) (R.images rig.old (R.clock rig.old)) joined.0 shelf.old
+        → AreStored (R.reads rig.new) (R.images rig.new (R.clock rig.new)) joined.0 shelf.new }
     ensures unchanged { OnErr result ((s : ℕ) → BecomesAt (λ t. t) (store_at shelf.old s) (store_at shelf.new s)) }
     ensures faults { IfErr result (λ fault. (fault ≡ PrepareFault.NoMemory) ⊎ ((s : ℕ) × (fault ≡ PrepareFault.Slot s))) }
     ensures quiet { (s : ℕ) → (IsErrOf result (PrepareFault.Slot s) → ⊥) → R.faults rig.new s ≡ R.faults rig.old s }

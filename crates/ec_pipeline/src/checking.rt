@@ -71,7 +71,7 @@ fn held_size(held: Option<&Held>) -> Option<u32>
 }
 
 /// The size of an object that may be there: 0 if it is not.
-pub fn size_or_none(size: Option<u32>) -> u32
+pub(crate) fn size_or_none(size: Option<u32>) -> u32
     ensures { result ≡ size_or_none size }
 {
     match size {
@@ -81,7 +81,7 @@ pub fn size_or_none(size: Option<u32>) -> u32
 }
 
 /// The least position of a set.
-pub fn lowest(set: Mask) -> Option<u8>
+pub(crate) fn lowest(set: Mask) -> Option<u8>
     requires few { set.0 < 2 ^ 16 }
     ensures some { IfSome result (λ p. (p < 16) × HasPosition set.0 p) }
     ensures least { IfSome result (λ p. (q : ℕ) → q < p → HasPosition set.0 q → ⊥) }

@@ -24,7 +24,7 @@ use shard_store::Shelf;
 use std::alloc::Global;
 
 /// The draft of bytes that are put into an object from `off` on.
-pub fn write_draft<R: Rig>(
+pub(crate) fn write_draft<R: Rig>(
     alloc: Global,
     shelf: &mut Shelf,
     rig: &mut R,

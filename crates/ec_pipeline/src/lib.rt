@@ -23,11 +23,9 @@ mod update;
 
 pub use checking::{Checked, check};
 pub use draft::{Draft, draft_step};
-pub use drafting::write_draft;
 pub use fault::{PrepareFault, Refusal};
 pub use flushing::flush_all;
 pub use pipeline::{Flushed, Pipeline};
-pub use reading::{read_part, window};
 pub use settling::{firm_step, stage_if, trim_step};
 pub use staging::{accept_all, change_all, unstage_all};
 pub use update::Update;

@@ -81,6 +81,9 @@ impl Pipeline {
             ⊎ IsHindered (meaning code.now) joined.0 shelf.old epoch (update_of update.now) s }
         ensures by_count { (unit : ℕ) (objects : Objects) (head : Meant) (s : ℕ) → ShowsAt (meaning code.now) unit joined.0 objects head shelf.old
             → MayFollow joined.0 shelf.old epoch head → IsErrOf result (PrepareFault.Slot s) → Rose (R.faults rig.old s) (R.faults rig.new s) }
+        ensures idle { AreIdle (R.is_here rig.new) (R.reads rig.new) (R.images rig.new (R.clock rig.new)) joined.0 shelf.new }
+        ensures stored { AreStored (R.reads rig.old) (R.images rig.old (R.clock rig.old)) joined.0 shelf.old
+            → AreStored (R.reads rig.new) (R.images rig.new (R.clock rig.new)) joined.0 shelf.new }
         ensures unchanged { OnErr result (((s : ℕ) → BecomesAt (λ t. t) (store_at shelf.old s) (store_at shelf.new s)) × (self.new.queue.items ≡ self.old.queue.items)) }
         ensures quiet { (s : ℕ) → (IsErrOf result (PrepareFault.Slot s) → ⊥) → R.faults rig.new s ≡ R.faults rig.old s }
         ensures rig { OnlyFetches R.is_here R.reads R.said R.clock R.images R.syncs R.bytes_written rig.old rig.new }
@@ -142,6 +145,9 @@ impl Pipeline {
         ensures ready { OnOk result (AreReady (meaning code.now).k (length self.new.queue.items) joined.0 shelf.new) }
         ensures slot { (s : ℕ) → IsErrOf result (PrepareFault.Slot s) → Rose (R.faults rig.old s) (R.faults rig.new s)
             ⊎ Hinders (meaning code.now) joined.0 shelf.old (update_of update.now) checked.now s }
+        ensures idle { AreIdle (R.is_here rig.new) (R.reads rig.new) (R.images rig.new (R.clock rig.new)) joined.0 shelf.new }
+        ensures stored { AreStored (R.reads rig.old) (R.images rig.old (R.clock rig.old)) joined.0 shelf.old
+            → AreStored (R.reads rig.new) (R.images rig.new (R.clock rig.new)) joined.0 shelf.new }
         ensures unchanged { OnErr result (((s : ℕ) → BecomesAt (λ t. t) (store_at shelf.old s) (store_at shelf.new s)) × (self.new.queue.items ≡ self.old.queue.items)) }
         ensures faults { IfErr result (λ fault. (fault ≡ PrepareFault.NoMemory) ⊎ ((s : ℕ) × (fault ≡ PrepareFault.Slot s))) }
         ensures quiet { (s : ℕ) → (IsErrOf result (PrepareFault.Slot s) → ⊥) → R.faults rig.new s ≡ R.faults rig.old s }

@@ -94,7 +94,7 @@ fn fetch_chunk<R: Rig>(
 }
 
 /// The `size` bytes whose chunks each joined slot has from `at` on, read by the least plan for the data positions.
-pub fn read_part<R: Rig>(
+pub(crate) fn read_part<R: Rig>(
     alloc: Global,
     shelf: &mut Shelf,
     rig: &mut R,
@@ -143,7 +143,7 @@ pub fn read_part<R: Rig>(
 }
 
 /// The stripes that `bytes` touch in an object of `size` bytes from `off` on, as they are with the bytes put into them.
-pub fn window<R: Rig>(
+pub(crate) fn window<R: Rig>(
     alloc: Global,
     shelf: &mut Shelf,
     rig: &mut R,

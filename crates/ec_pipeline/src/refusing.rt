@@ -11,7 +11,7 @@ use ec_words::Name;
 use shard_state::{Held, ShardState};
 
 /// The refusal of bytes that are put into an object, which has `size` bytes then.
-pub fn put_refusal(state: &ShardState, name: &Name, size: u64) -> Option<Refusal>
+pub(crate) fn put_refusal(state: &ShardState, name: &Name, size: u64) -> Option<Refusal>
     ensures meant { IsRefusalOfPut state.now.state.objects name.now size result }
     ensures small { result ≡ None → size ≤ max_size }
 {
@@ -48,7 +48,7 @@ fn is_absent(held: Option<&Held>) -> bool
 }
 
 /// The refusal of an object's removal.
-pub fn delete_refusal(state: &ShardState, name: &Name) -> Option<Refusal>
+pub(crate) fn delete_refusal(state: &ShardState, name: &Name) -> Option<Refusal>
     ensures { IsRefusalFor state.now.state.objects (Delete name.now) result }
 {
     match state.object(name) {
@@ -58,7 +58,7 @@ pub fn delete_refusal(state: &ShardState, name: &Name) -> Option<Refusal>
 }
 
 /// The refusal of an attribute's removal.
-pub fn remove_refusal(state: &ShardState, name: &Name, attr: &Name) -> Option<Refusal>
+pub(crate) fn remove_refusal(state: &ShardState, name: &Name, attr: &Name) -> Option<Refusal>
     ensures { IsRefusalFor state.now.state.objects (RemoveAttr name.now attr.now) result }
 {
     match state.object(name) {
@@ -76,7 +76,12 @@ pub fn remove_refusal(state: &ShardState, name: &Name, attr: &Name) -> Option<Re
 }
 
 /// The refusal of a value that an attribute is to have.
-pub fn set_refusal(state: &ShardState, name: &Name, attr: &Name, value: &[u8]) -> Option<Refusal>
+pub(crate) fn set_refusal(
+    state: &ShardState,
+    name: &Name,
+    attr: &Name,
+    value: &[u8],
+) -> Option<Refusal>
     ensures meant { IsRefusalFor state.now.state.objects (SetAttr name.now attr.now value.now) result }
     ensures small { result ≡ None → length value.now ≤ max_value }
 {

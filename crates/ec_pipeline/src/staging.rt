@@ -8,7 +8,7 @@ ghost use Rattle.shard_store.specs.Told.{IsAccepted, with_step, all_accepted, no
 ghost use Rattle.stripe_map.specs.Sizes.{max_object};
 ghost use Rattle.ec_positions.specs.Updates.{bytes_given};
 ghost use Rattle.ec_pipeline.specs.Drafts.{drafted_step};
-ghost use Rattle.ec_pipeline.specs.Shelving.{BecomesAt, AreTold, AreSame};
+ghost use Rattle.ec_pipeline.specs.Shelving.{BecomesAt, AreTold, AreSame, TellsOn};
 ghost use Rattle.ec_pipeline.specs.Staging.{HasStagingCause, IsMisfitAt};
 ghost use Rattle.ec_pipeline.specs.Updates.{update_of};
 
@@ -22,7 +22,8 @@ use std::alloc::Global;
 
 /// What is staged on the slots of a set takes effect. It takes no memory.
 pub fn accept_all(shelf: &mut Shelf, set: Mask)
-    ensures { AreTold (λ _. all_accepted) set.0 16 shelf.old shelf.new }
+    ensures value { AreTold (λ _. all_accepted) set.0 16 shelf.old shelf.new }
+    ensures told { (s : ℕ) → TellsOn (store_at shelf.old s) (store_at shelf.new s) }
 {
     for slot in 0..16u8 {
         if set.has(slot) {
@@ -122,6 +123,7 @@ pub fn change_all(
         → IfSome (store_at shelf.old s) (HasRoomFor (drafted_step (meaning code.now) g.unit s draft.now (update_of update.now))) }
     ensures ok { OnOk result (AreTold
         (λ s t. all_accepted (with_step t (drafted_step (meaning code.now) g.unit s draft.now (update_of update.now)))) set.0 16 shelf.old shelf.new) }
+    ensures told { OnOk result ((s : ℕ) → TellsOn (store_at shelf.old s) (store_at shelf.new s)) }
     ensures faults { IfErr result (HasStagingCause set.0 (λ s. drafted_step (meaning code.now) g.unit s draft.now (update_of update.now)) shelf.old) }
     ensures unchanged { OnErr result (AreSame shelf.old shelf.new) }
 {

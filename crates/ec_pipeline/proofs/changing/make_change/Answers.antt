@@ -1,4 +1,4 @@
-use Rattle.std.proofs.Common.{◌≤◌, inr, sym, subst, ◌∙◌, Option}
+use Rattle.std.proofs.Common.{◌≤◌, inr, refl, sym, subst, ◌∙◌, Option}
 use Rattle.std.specs.Prelude.{IfSome}
 use Rattle.std.specs.FinMap as fin
 use Rattle.shard_store.specs.OnSlot.{HasRoomFor}
@@ -15,7 +15,9 @@ use Rattle.ec_pipeline.specs.Updates.{update_of}
 use Rattle.ec_pipeline.specs.declared.fault.PrepareFault.TheVariants.{Slot}
 use Rattle.ec_pipeline.proofs.HinderLemmas.{slot_staged}
 use Rattle.ec_pipeline.proofs.ReadLemmas.{fault_same}
-use Rattle.ec_pipeline.proofs.ChangeLemmas.{step_short, room_at, ready_then, stripes_shown, prepared}
+use Rattle.ec_pipeline.specs.Shelving.{TellsOn}
+use Rattle.ec_pipeline.proofs.AgainLemmas.{idle_again, steps_again, tells_kept}
+use Rattle.ec_pipeline.proofs.ChangeLemmas.{step_short, room_at, ready_then, stripes_shown, prepared, unchanged_then, unchanged_same}
 use Rattle.ec_pipeline.proofs.SetLemmas.{below_16, position_below}
 use Rattle.ec_pipeline.proofs.changing.make_change.Goals as goal
 
@@ -81,3 +83,64 @@ returns-clause-slot g c s is =
         misfit = subst (λ (o : Option Store). IsMisfitAt o (drafted_step code unit s draft asked)) (c.draft_of.ensures.stores s) cause.1;
       }),
     )
+
+pub returns-in-Err-clause-idle : goal.returns-in-Err-clause-idle
+returns-in-Err-clause-idle g c s has =
+    let old = c.args.shelf.now in
+    let new = c.draft_of.new.shelf in
+    idle_again g.R.Rig.is_here g.R.Rig.reads g.R.Rig.said g.R.Rig.clock g.R.Rig.images g.R.Rig.faults g.R.Rig.syncs g.R.Rig.bytes_written g.R.Rig.bytes_read
+    c.args.rig.now c.draft_of.new.rig s (λ t. t) (store_at old s) (store_at new s) c.draft_of.ensures.rig (λ t none. none)
+    (unchanged_same old new c.draft_of.ensures.stores s) (c.requires.idle s has)
+
+pub returns-in-Err-clause-stored : goal.returns-in-Err-clause-stored
+returns-in-Err-clause-stored g c stored s has =
+    let old = c.args.shelf.now in
+    let new = c.draft_of.new.shelf in
+    let same = unchanged_same old new c.draft_of.ensures.stores s in
+    steps_again g.R.Rig.is_here g.R.Rig.reads g.R.Rig.said g.R.Rig.clock g.R.Rig.images g.R.Rig.faults g.R.Rig.syncs g.R.Rig.bytes_written g.R.Rig.bytes_read
+    c.args.rig.now c.draft_of.new.rig (λ t. t) (store_at old s) (store_at new s) c.draft_of.ensures.rig (λ t. refl)
+    same (tells_kept (store_at old s) (store_at new s) same) (stored s has)
+
+pub returns-clause-idle : goal.returns-clause-idle
+returns-clause-idle g c s has =
+    let old = c.args.shelf.now in
+    let new = c.change_all.new.shelf in
+    idle_again g.R.Rig.is_here g.R.Rig.reads g.R.Rig.said g.R.Rig.clock g.R.Rig.images g.R.Rig.faults g.R.Rig.syncs g.R.Rig.bytes_written g.R.Rig.bytes_read
+    c.args.rig.now c.draft_of.new.rig s (λ t. t) (store_at old s) (store_at new s) c.draft_of.ensures.rig (λ t none. none)
+    (unchanged_then old c.draft_of.new.shelf new c.draft_of.ensures.stores c.in-Err-change_all.ensures.unchanged s) (c.requires.idle s has)
+
+pub returns-clause-stored : goal.returns-clause-stored
+returns-clause-stored g c stored s has =
+    let old = c.args.shelf.now in
+    let new = c.change_all.new.shelf in
+    let same = unchanged_then old c.draft_of.new.shelf new c.draft_of.ensures.stores c.in-Err-change_all.ensures.unchanged s in
+    steps_again g.R.Rig.is_here g.R.Rig.reads g.R.Rig.said g.R.Rig.clock g.R.Rig.images g.R.Rig.faults g.R.Rig.syncs g.R.Rig.bytes_written g.R.Rig.bytes_read
+    c.args.rig.now c.draft_of.new.rig (λ t. t) (store_at old s) (store_at new s) c.draft_of.ensures.rig (λ t. refl)
+    same (tells_kept (store_at old s) (store_at new s) same) (stored s has)
+
+pub returns-in-Ok-change_all-clause-idle : goal.returns-in-Ok-change_all-clause-idle
+returns-in-Ok-change_all-clause-idle g c s has =
+    let code = (goal.Code-dyn g c.args.code.now).meaning c.args.code.now.1 in
+    let old = c.args.shelf.now in
+    let new = c.change_all.new.shelf in
+    let few = below_16 code.n c.args.joined.0 c.shape-shape.ensures.1.few c.requires.below in
+    let step = drafted_step code c.args.checked.now.g.unit s c.in-Ok.draft (update_of c.args.update.now) in
+    idle_again g.R.Rig.is_here g.R.Rig.reads g.R.Rig.said g.R.Rig.clock g.R.Rig.images g.R.Rig.faults g.R.Rig.syncs g.R.Rig.bytes_written g.R.Rig.bytes_read
+    c.args.rig.now c.draft_of.new.rig s (λ t. all_accepted (with_step t step)) (store_at old s) (store_at new s) c.draft_of.ensures.rig (λ t none. refl)
+    (subst (λ (o : Option Store). BecomesAt (λ t. all_accepted (with_step t step)) o (store_at new s)) (c.draft_of.ensures.stores s)
+    (c.in-Ok-change_all.ensures.ok.inside s (position_below 16 c.args.joined.0 s few has) has))
+    (c.requires.idle s has)
+
+pub returns-in-Ok-change_all-clause-stored : goal.returns-in-Ok-change_all-clause-stored
+returns-in-Ok-change_all-clause-stored g c stored s has =
+    let code = (goal.Code-dyn g c.args.code.now).meaning c.args.code.now.1 in
+    let old = c.args.shelf.now in
+    let new = c.change_all.new.shelf in
+    let few = below_16 code.n c.args.joined.0 c.shape-shape.ensures.1.few c.requires.below in
+    let step = drafted_step code c.args.checked.now.g.unit s c.in-Ok.draft (update_of c.args.update.now) in
+    steps_again g.R.Rig.is_here g.R.Rig.reads g.R.Rig.said g.R.Rig.clock g.R.Rig.images g.R.Rig.faults g.R.Rig.syncs g.R.Rig.bytes_written g.R.Rig.bytes_read
+    c.args.rig.now c.draft_of.new.rig (λ t. all_accepted (with_step t step)) (store_at old s) (store_at new s) c.draft_of.ensures.rig (λ t. refl)
+    (subst (λ (o : Option Store). BecomesAt (λ t. all_accepted (with_step t step)) o (store_at new s)) (c.draft_of.ensures.stores s)
+    (c.in-Ok-change_all.ensures.ok.inside s (position_below 16 c.args.joined.0 s few has) has))
+    (subst (λ (o : Option Store). TellsOn o (store_at new s)) (c.draft_of.ensures.stores s) (c.in-Ok-change_all.ensures.told s))
+    (stored s has)
