@@ -12,6 +12,7 @@ use Rattle.pool_moves.specs.Contents as slots
 use Rattle.pool_moves.specs.Creating.{IsFirst, HasNoneOrFirst}
 use Rattle.pool_moves.specs.Instants.{MovedFrom}
 use Rattle.pool_moves.specs.Moves.{Move}
+use Rattle.pool_moves.specs.Turns.{AreComplete}
 use Rattle.pool_history.specs.Consistency.{Agrees}
 use Rattle.pool_history.specs.Histories.{History, IsOneOf, first_history, with_activated}
 use Rattle.pool_history.specs.Images.{StoredPool, IsStoredPool, IsLastAlive}
@@ -66,3 +67,10 @@ abbrev pub ActivationsAgree : Type 0
 ActivationsAgree = (layout : Layout) (c : Contents) (history : History) (epoch joined : ℕ) (base : Version) → AgreesWith layout c history
     → IsLastAlive c.map.state.intervals epoch joined base → (IsOneOf history.activated epoch → ⊥) → AllHaveStarted (stored_of c) joined epoch
     → AgreesWith layout c (with_activated epoch base history)
+
+-- so do the images of now, if the pool is complete in each: they agree also with the history in which its epoch is active
+abbrev pub CompletePoolsAgree : {R : Type 0} → (R → ℕ) → (R → ℕ → Image → List ℕ → Type 0) → Type 0
+CompletePoolsAgree {R} clock_of images_of = (layout : Layout) (history : History) (now : R) (epoch joined : ℕ)
+    → ((image : Image) (said : List ℕ) → images_of now (clock_of now) image said → Bears layout history image) → (IsOneOf history.activated epoch → ⊥)
+    → (complete : AreComplete (slots_of layout) (images_of now (clock_of now)) epoch joined) → (image : Image) (said : List ℕ)
+    → images_of now (clock_of now) image said → Bears layout (with_activated epoch complete.base history) image

@@ -1,5 +1,5 @@
 //! Laws about the contents of a pool's slots and its history. Each is the contract of a function that does nothing.
-ghost use Rattle.pool_agreement.specs.Agreement.{MovesKeepAgreement, CallsKeepAgreement, FirstContentsAgree, MadePoolsAgree, ActivationsAgree};
+ghost use Rattle.pool_agreement.specs.Agreement.{MovesKeepAgreement, CallsKeepAgreement, FirstContentsAgree, MadePoolsAgree, ActivationsAgree, CompletePoolsAgree};
 
 use auth_log::only_up_slots_count;
 use pool_history::{new_pools_agree, transitions_keep_agreement};
@@ -39,4 +39,12 @@ pub fn activations_agree()
     ensures { ActivationsAgree }
 {
     transitions_keep_agreement();
+}
+
+/// If a pool is complete in each image of now, and they agree with a history, they agree also with the history in which its epoch
+/// is active.
+pub fn complete_pools_agree<R: Rig>()
+    ensures { CompletePoolsAgree R.clock R.images }
+{
+    activations_agree();
 }

@@ -21,9 +21,10 @@ pub record IsComplete (l : Layout) (c : Contents) (epoch joined : ℕ) (base : V
   pub newest : IsLastAlive c.map.state.intervals epoch joined base
   pub members : (p : ℕ) → p < l.n → HasPosition joined p → HasReached c epoch p
 
--- so it is in each of these images, with one base
+-- so it is in each of these images, with one base; the members lie among the pool's slots
 pub record AreComplete (l : Layout) (images : Image → List ℕ → Type 0) (epoch joined : ℕ) : Type 0 where
   pub base : Version
+  pub below : (p : ℕ) → HasPosition joined p → p < l.n
   pub each : (image : Image) (said : List ℕ) (c : Contents) → images image said → HasContents l image c → IsComplete l c epoch joined base
 
 -- how many of the first slots have a store

@@ -160,6 +160,7 @@ returns-in-Ok-start_joined-clause-active g c state is = (
       (subst (λ x. IsLastAlive (map_of c.go_alive.new.self.map).state.intervals x c.args.joined.0 c.args.base.now) (sym c.requires.epoch) c.in-Ok.ensures.newest) in
       record {
         base = c.args.base.now;
+        below = λ p member. let m = c.requires.may.3.may p member in (c.requires.ready.own.each p m.store m.there).below;
         each = λ image said contents now has.
             contents_complete c.texts_have_one_story.ensures c.texts_have_one_map.ensures c.requires.may.0 l r.positive r.few reads images s.map h.held_map
             s.shelf r.own h.stores image said contents now has c.args.epoch c.args.joined.0 c.args.base.now newest
