@@ -1,6 +1,6 @@
 -- What a fault of a turn says.
-use Rattle.std.proofs.Common.{◌≡◌, ◌⊎◌, inl, inr, ⊎_elim, ℕ, Result, Ok, Err, refl, sym, ap, subst, ◌∙◌}
-use Rattle.std.specs.Prelude.{IfErr, OnOk}
+use Rattle.std.proofs.Common.{◌≡◌, ◌⊎◌, ⊎_elim, ℕ, Result, Ok, Err, sym, ap, subst, ◌∙◌}
+use Rattle.std.specs.Prelude.{OnOk}
 use Rattle.rig_disk.specs.Faults.{Rose}
 use Rattle.pool_map.specs.Faults.{HasMapCause}
 use Rattle.pool_map.specs.declared.fault.MapFault.{MapFault}

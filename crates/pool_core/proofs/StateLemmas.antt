@@ -1,5 +1,5 @@
 -- The states that a pool answers.
-use Rattle.std.proofs.Common.{◌≡◌, ℕ, List, Option, Result, Ok, Err, Some, sym, subst}
+use Rattle.std.proofs.Common.{◌≡◌, ℕ, Option, Result, Ok, Err, Some, subst}
 use Rattle.ec_model.specs.Codes.{CodeRows}
 use Rattle.ec_model.specs.Versions.{Version}
 use Rattle.ec_words.specs.declared.mask.Mask.{Mask}
@@ -11,7 +11,7 @@ use Rattle.pool_moves.specs.Choosing.{ComeTo}
 use Rattle.pool_core.specs.States.{IsServed, with_begun}
 use Rattle.pool_core.specs.declared.fault.PoolFault.{PoolFault}
 use Rattle.pool_core.specs.declared.state.State.{State}
-use Rattle.pool_core.specs.declared.state.State.TheVariants.{Active, Short, Down}
+use Rattle.pool_core.specs.declared.state.State.TheVariants.{Active}
 
 -- what slots come to, said of an equal map, shelf and least number
 pub come_over : (code : CodeRows) (m later : PoolImage) (before shelf : Shelved) (up least same_least : ℕ) (version : Version) (holding : ℕ) (state is : meant.State)

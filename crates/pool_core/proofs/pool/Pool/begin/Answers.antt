@@ -1,4 +1,4 @@
-use Rattle.std.proofs.Common.{◌≡◌, ◌⊎◌, ◌<◌, ◌+◌, ◌^◌, ◌∙◌, refl, inl, ⊎_elim, ℕ, Result, Err, true, sym, ap, subst}
+use Rattle.std.proofs.Common.{◌≡◌, ◌<◌, ◌+◌, ◌^◌, ◌∙◌, refl, inl, ⊎_elim, ℕ, Result, Err, true, sym, ap, subst}
 use Rattle.std.proofs.lemmas.Bool.{cases_lt}
 use Rattle.rig_disk.specs.During.{During}
 use Rattle.map_model.specs.States.{fits, last_epoch, epoch_limit}

@@ -1,4 +1,4 @@
-use Rattle.std.proofs.Common.{◌≡◌, ◌≢◌, inl, inr, Option, Err, is_some, refl, ap, arith}
+use Rattle.std.proofs.Common.{◌≢◌, inl, inr, Option, Err, is_some, ap, arith}
 use Rattle.shard_store.specs.Stories.{shard_head}
 use Rattle.shard_store.specs.declared.store.Store.{Store}
 use Rattle.pool_moves.proofs.OverLemmas.{loaded_ready, loaded_held, dropped_ready, dropped_held}

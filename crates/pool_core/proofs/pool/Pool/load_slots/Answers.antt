@@ -4,8 +4,6 @@ use Rattle.ec_model.specs.Codes.{HasPosition}
 use Rattle.pool_map.specs.Pool.{map_of}
 use Rattle.pool_moves.specs.Finding.{AreFound}
 use Rattle.pool_moves.proofs.FindingLemmas.{found_none, found_past, found_on, lost_over}
-use Rattle.pool_map.specs.declared.map.PoolMap.{PoolMap}
-use Rattle.pool_moves.specs.Ready.{IsReady, IsHeld}
 use Rattle.pool_moves.proofs.OverLemmas.{loaded_none, loaded_past, loaded_on, loaded_run}
 use Rattle.pool_core.specs.Pools.{layout_of}
 use Rattle.pool_core.proofs.pool.Pool.load_slots.Goals as goal

@@ -1,4 +1,4 @@
-use Rattle.std.proofs.Common.{◌∙◌, Option, Ok, Err, refl, subst, ap, arith}
+use Rattle.std.proofs.Common.{rules, ◌∙◌, Option, Ok, Err, refl, subst, ap, arith}
 use Rattle.pool_map.specs.Pool.{map_of}
 use Rattle.pool_moves.specs.Contents.{Layout}
 use Rattle.pool_moves.specs.Ready.{IsReady}
@@ -107,3 +107,6 @@ returns-in-Err-clause-only_if_fault g c = cause_as _ _ _ c.in-Err.fault c.loop-r
 
 pub returns-in-Err-clause-worn : goal.returns-in-Err-clause-worn
 returns-in-Err-clause-worn g c is = c.in-Err.ensures.worn (ap Err (err_same c.in-Err.fault Worn is))
+
+pub unreachable-requires : goal.unreachable-requires
+unreachable-requires g c = search rules

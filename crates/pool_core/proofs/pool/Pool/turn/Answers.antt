@@ -2,7 +2,6 @@ use Rattle.std.proofs.Common.{◌≡◌, ◌<◌, ◌∙◌, inl, inr, ℕ, Resu
 use Rattle.rig_disk.specs.During.{During}
 use Rattle.ec_words.specs.declared.mask.Mask.{Mask}
 use Rattle.auth_log.specs.Meanings.{state_of}
-use Rattle.auth_log.specs.States as meant
 use Rattle.map_model.specs.States.{kept}
 use Rattle.shard_store.specs.Shelved.{Shelved}
 use Rattle.pool_map.specs.Pool.{map_of}
