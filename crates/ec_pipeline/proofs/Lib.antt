@@ -4,6 +4,7 @@ pub mod AttrLemmas
 pub mod ChangeLemmas
 pub mod CheckLemmas
 pub mod DraftLemmas
+pub mod FindLemmas
 pub mod FlushAllLemmas
 pub mod FlushLemmas
 pub mod HinderLemmas

@@ -1,5 +1,6 @@
 pub mod Checking
 pub mod Drafts
+pub mod Finding
 pub mod Flushing
 pub mod Preparing
 pub mod Reading

@@ -61,7 +61,7 @@ fn size_after(old: u64, off: u64, len: u64) -> u64
 }
 
 /// The size of an object that may be there.
-fn held_size(held: Option<&Held>) -> Option<u32>
+pub(crate) fn held_size(held: Option<&Held>) -> Option<u32>
     ensures { result ≡ size_if (option_copied held.entry) }
 {
     match held {

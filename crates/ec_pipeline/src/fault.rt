@@ -40,6 +40,20 @@ pub enum PrepareFault {
     NoMemory,
 }
 
+/// Why a read gives nothing.
+#[derive(Clone, Copy, Debug, PartialEq, Eq, Error)]
+pub enum ReadFault {
+    /// There is no such object.
+    #[error("absent")]
+    Absent,
+    /// A call on the slot failed, or its shard lacks something.
+    #[error("slot {slot}")]
+    Slot { slot: u8 },
+    /// Memory ran out.
+    #[error("out of memory")]
+    NoMemory,
+}
+
 impl From<NoMemory> for PrepareFault {
     ghost from_gives = { λ _ fault. fault ≡ OutOfMemory };
 

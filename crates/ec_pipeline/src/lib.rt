@@ -12,6 +12,7 @@ mod checking;
 mod draft;
 mod drafting;
 mod fault;
+mod finding;
 mod flushing;
 mod limits;
 mod pipeline;
@@ -23,7 +24,7 @@ mod update;
 
 pub use checking::{Checked, check};
 pub use draft::{Draft, draft_step};
-pub use fault::{PrepareFault, Refusal};
+pub use fault::{PrepareFault, ReadFault, Refusal};
 pub use flushing::flush_all;
 pub use pipeline::{Flushed, Pipeline};
 pub use settling::{firm_step, stage_if, trim_step};
