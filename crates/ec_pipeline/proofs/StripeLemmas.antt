@@ -28,7 +28,7 @@ zero_stripes k unit = grind arith
 positive_is : (n : ℕ) → (n ≡ 0 → ⊥) → 0 < n
 positive_is n some = grind arith
 
-in_range : (list : List ℕ) (at n : ℕ) → at + n ≤ length list → range_of (Some list) at n ≡ Some (take n (drop at list))
+pub in_range : (list : List ℕ) (at n : ℕ) → at + n ≤ length list → range_of (Some list) at n ≡ Some (take n (drop at list))
 in_range list at n inside = grind (arith, common_steps)
 
 -- the slots that have an object give the list of their position of some of its stripes
