@@ -1,10 +1,10 @@
 //! Updates of a pool's objects, made on every joined slot.
 //!
-//! Headline: [`check`] refuses an update exactly as the objects that the slots show ask for, and [`change_all`] gives each slot
-//! the step of its position, or leaves all stores as they were.
+//! Headline: [`Pipeline::prepare`] refuses an update exactly as the objects that the slots show ask for; after Ok the slots show
+//! the objects after it, and after each `Err` all stores are as they were. [`Pipeline::get`] gives the bytes of the object shown.
 //!
-//! With two data chunks and one parity in units of 32 bytes, `append a 0102` on no objects stages three writes of 32 bytes: 1, 2
-//! and 30 zeros, 32 zeros, and the sum of both.
+//! With two data chunks and one parity in units of 32 bytes, `append a 0102` on no objects is three writes of 32 bytes: 1, 2 and
+//! 30 zeros, 32 zeros, and the sum of both.
 #![tactic(auto)]
 
 mod changing;
