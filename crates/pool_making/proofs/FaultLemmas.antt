@@ -1,5 +1,5 @@
 -- Answers that are Ok or a fault.
-use Rattle.std.proofs.Common.{◌≡◌, ◌≢◌, ◌⊎◌, ◌<◌, inl, inr, ℕ, refl, sym, ap, subst, ◌∙◌}
+use Rattle.std.proofs.Common.{◌≡◌, ◌≢◌, ◌⊎◌, ◌<◌, inl, inr, ℕ, refl, sym, ap, subst, ◌∙◌, arith}
 use Rattle.std.specs.Prelude.{Result, Ok, Err, OnOk}
 use Rattle.rig_disk.specs.Faults.{Rose}
 use Rattle.pool_map.specs.Faults.{HasMapCause}
@@ -7,7 +7,7 @@ use Rattle.pool_map.specs.declared.fault.MapFault.{MapFault}
 use Rattle.pool_map.specs.declared.fault.MapFault.TheVariants as map
 use Rattle.pool_map.specs.declared.map.PoolMap.{PoolMap}
 use Rattle.pool_moves.proofs.MakingLemmas.{same_counts}
-use Rattle.pool_making.specs.Faults.{HasMakeCause}
+use Rattle.pool_making.specs.Faults.{HasMakeCause, Names}
 use Rattle.pool_making.specs.declared.fault.MakeFault.{MakeFault}
 use Rattle.pool_making.specs.declared.fault.MakeFault.TheVariants.{MapFailed, NoMemory, SlotFailed}
 
@@ -29,7 +29,7 @@ abbrev err_of : {T : Type 0} → ℕ → Result T MakeFault
 err_of s = Err (SlotFailed s)
 
 -- a call on this slot failed
-pub failed_on : {T : Type 0} (n p : ℕ) (before now : ℕ → ℕ) → p < n → Rose (before p) (now p) → ((s : ℕ) → s ≢ p → now s ≡ before s)
+pub failed_on : {T : Type 0} (n p : ℕ) (before now : ℕ → ℕ) → (p < n) × (p < 16) → Rose (before p) (now p) → ((s : ℕ) → s ≢ p → now s ≡ before s)
     → HasMakeCause {T = T} n before now (Err (SlotFailed p))
 failed_on {T = T} n p before now below rose same = record {
   below = λ slot is. rw (sym (its slot is)) below;
@@ -99,3 +99,19 @@ map_cause {T = T} n before now made fault answer is cause same (inr none_left) =
 
     other : ◌≡◌ {A = Result PoolMap MapFault} (Err map.NoMemory) (Err map.Failed) → ⊥
     other e = cc
+
+-- what callers of the making of a pool cite: the output's count of faults stays
+pub voice_stays : {T : Type 0} (n : ℕ) (before now : ℕ → ℕ) (result : Result T MakeFault) → HasMakeCause n before now result → now 17 ≡ before 17
+voice_stays n before now result cause = cause.others 17 named
+  where
+    named : Names result 17 → ⊥
+    named (inl is) = omega (arith, (cause.below 17 is).1)
+    named (inr map) = omega (arith, map.0)
+
+-- and after Ok every count does
+pub all_stay : {T : Type 0} (x : T) (n : ℕ) (before now : ℕ → ℕ) → HasMakeCause n before now (Ok x) → (slot : ℕ) → now slot ≡ before slot
+all_stay x n before now cause slot = cause.others slot named
+  where
+    named : Names (Ok x) slot → ⊥
+    named (inl is) = cc
+    named (inr map) = let is = map.1 in cc

@@ -12,10 +12,10 @@ use Rattle.pool_making.specs.declared.fault.MakeFault.TheVariants.{Exists, SlotF
 abbrev pub Names : {T : Type 0} → Result T MakeFault → ℕ → Type 0
 Names result slot = (result ≡ Err (SlotFailed slot)) ⊎ ((slot ≡ map_slot) × (result ≡ Err MapFailed))
 
--- the answer names one of the n slots or that of the map, or none. The count of faults of the named one rose, and that of every
+-- the answer names one of the n slots, which are below that of the map, or that of the map, or none. The count of faults of the named one rose, and that of every
 -- other slot is as it was
 pub record HasMakeCause {T : Type 0} (n : ℕ) (before now : ℕ → ℕ) (result : Result T MakeFault) : Type 0 where
-  pub below : (slot : ℕ) → result ≡ Err (SlotFailed slot) → slot < n
+  pub below : (slot : ℕ) → result ≡ Err (SlotFailed slot) → (slot < n) × (slot < map_slot)
   pub named : (slot : ℕ) → Names result slot → Rose (before slot) (now slot)
   pub others : (slot : ℕ) → (Names result slot → ⊥) → now slot ≡ before slot
 

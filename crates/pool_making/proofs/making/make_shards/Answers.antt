@@ -74,4 +74,4 @@ returns-in-Err-clause-costs g c =
 
 pub returns-in-Err-Failed-clause-cause : goal.returns-in-Err-Failed-clause-cause
 returns-in-Err-Failed-clause-cause g c = cause_after c.args.n (g.R.Rig.faults c.args.rig.now) (g.R.Rig.faults c.loop-p.rig) (g.R.Rig.faults c.make.new.rig) _ c.loop-p.invariant.0.faults
-    (failed_on c.args.n c.loop-p.p (g.R.Rig.faults c.loop-p.rig) (g.R.Rig.faults c.make.new.rig) (omega (arith, c.loop-p-test.true)) (c.make.ensures.only_if_fault.failed (c.in-Err-Failed.is ∙ ap Err c.in-Err-Failed.field-0-is)) c.make.ensures.kept.counts.faults)
+    (failed_on c.args.n c.loop-p.p (g.R.Rig.faults c.loop-p.rig) (g.R.Rig.faults c.make.new.rig) (c.loop-p-test.true, omega (arith, c.loop-p-test.true, c.requires.few)) (c.make.ensures.only_if_fault.failed (c.in-Err-Failed.is ∙ ap Err c.in-Err-Failed.field-0-is)) c.make.ensures.kept.counts.faults)

@@ -29,7 +29,7 @@ returns-in-Err-clause-any_moment g c = placed_run g.R.Rig.is_here g.R.Rig.reads 
 
 pub returns-in-Err-clause-cause : goal.returns-in-Err-clause-cause
 returns-in-Err-clause-cause g c = cause_after c.args.n (g.R.Rig.faults c.args.rig.now) (g.R.Rig.faults c.loop-p.rig) (g.R.Rig.faults c.place.new.self) _ c.loop-p.invariant.0.faults
-    (failed_on c.args.n c.loop-p.p (g.R.Rig.faults c.loop-p.rig) (g.R.Rig.faults c.place.new.self) (omega (arith, c.loop-p-test.true)) c.in-Err.ensures.cause.failed c.place.ensures.kept.faults)
+    (failed_on c.args.n c.loop-p.p (g.R.Rig.faults c.loop-p.rig) (g.R.Rig.faults c.place.new.self) (c.loop-p-test.true, omega (arith, c.loop-p-test.true, c.requires.few)) c.in-Err.ensures.cause.failed c.place.ensures.kept.faults)
 
 pub returns-in-Err-clause-kept : goal.returns-in-Err-clause-kept
 returns-in-Err-clause-kept g c =
