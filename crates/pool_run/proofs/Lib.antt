@@ -1,4 +1,5 @@
 mod CommandLemmas
+mod CreateLemmas
 mod KeptLemmas
 pub mod LineLemmas
 mod ListingLemmas

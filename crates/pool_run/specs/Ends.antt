@@ -1,6 +1,6 @@
 -- How a run ends: what the top call and its commands ensure, in parts. Source: this project.
 -- Of a script, an input and what was said there is the text of before and the one of now, if they are told.
-use Rattle.std.specs.Prelude.{◌≡◌, ◌<◌, ℕ, List, [], ◌∷◌, length, Option, Some}
+use Rattle.std.specs.Prelude.{◌≡◌, ◌≢◌, ◌⊎◌, ◌<◌, ℕ, List, [], ◌∷◌, length, Option, Some}
 use Rattle.std.specs.Io.KnownBytes.{Appends}
 use Rattle.rig_disk.specs.Faults.{Rose}
 use Rattle.rig_disk.specs.declared.limits.TheConstants.{VOICE}
@@ -9,7 +9,7 @@ use Rattle.plugin_reg.specs.Opening.{IsRefused}
 use Rattle.pool_run.specs.Profiles.{IsAskedFor, NeedsNoInput, SaysFault}
 use Rattle.pool_run.specs.Texts.{OneOf, ComesFor, SaysItsLine, line_of, max_input}
 use Rattle.pool_run.specs.Tries.{IsAnswered, status_of}
-use Rattle.pool_run.specs.Words.{Words, AreWrong, AskProfile, whole_input}
+use Rattle.pool_run.specs.Words.{Words, AreWrong, AskProfile, AskCreate, whole_input}
 
 -- a script was tried with an accepted profile: what is said is a prefix of the replies, and then the line of the status
 pub record TriesScript (status : ℕ) (before now input rest : Option (List ℕ)) : Type 0 where
@@ -28,16 +28,19 @@ pub record IsRefusedAtOnce {Input : Type 0} (text : List ℕ) (status : ℕ) (be
   pub statuses : OneOf status (3 ∷ 9 ∷ 13 ∷ [])
   pub untouched : new ≡ old
 
--- status 2 comes for wrong words, status 3 for a profile that was asked for and has a fault, and status 12 for an input that is too
+-- statuses 4, 5 and 10 come only if a pool was to be made; status 2 comes for wrong words, status 3 for a profile that was asked for and has a fault, and status 12 for an input that is too
 -- long, with its line alone
 pub record ComesForItsCause (words : Words) (status : ℕ) (before now input rest : Option (List ℕ)) : Type 0 where
   pub status_2 : SaysItsLine (AreWrong words) 2 before now status
   pub status_3 : status ≡ 3 → (profile : List ℕ) × (f : ProfileFault) × IsRefused profile f × IsAskedFor words input rest profile
-  pub long_profile : (text : List ℕ) → AskProfile words whole_input → input ≡ Some text → ComesFor (max_input < length text) 12 (8 ∷ 9 ∷ 13 ∷ []) status
+  pub long_profile : (text : List ℕ) → AskProfile words whole_input ⊎ AskCreate words whole_input → input ≡ Some text → ComesFor (max_input < length text) 12 (8 ∷ 9 ∷ 13 ∷ []) status
   pub too_long : status ≡ 12 → Appends before now (line_of 12)
+  pub making : OneOf status (4 ∷ 5 ∷ 10 ∷ []) → (profile : List ℕ) × AskCreate words profile
 
--- statuses 2 and 3 leave the input alone, if the profile is not its text; a profile that is a word, to be shown or refused, needs no
+-- statuses 2 and 3 leave the input alone, if the profile is not its text; so does a pool that is made with a profile that is a word; a
+-- profile that is a word, to be shown or refused, needs no
 -- input, which is left alone whatever the status is
 pub record LeavesInput {Input : Type 0} (words : Words) (status : ℕ) (old new : Input) : Type 0 where
-  pub unread : OneOf status (2 ∷ 3 ∷ []) → ¬ (AskProfile words whole_input) → new ≡ old
+  pub unread : OneOf status (2 ∷ 3 ∷ []) → ¬ (AskProfile words whole_input) → ¬ (AskCreate words whole_input) → new ≡ old
   pub at_once : (profile : List ℕ) → NeedsNoInput words profile → OneOf status (0 ∷ 3 ∷ 9 ∷ 13 ∷ []) × (new ≡ old)
+  pub created : (profile : List ℕ) → AskCreate words profile → profile ≢ whole_input → new ≡ old

@@ -1,4 +1,5 @@
 pub mod Counts
+pub mod Creates
 pub mod Ends
 pub mod Lines
 pub mod Profiles

@@ -14,7 +14,7 @@ use Rattle.plugin_reg.specs.Opening.{IsRefused, fault_line}
 use Rattle.rig_disk.specs.Said.{SaysFront}
 use Rattle.pool_run.specs.Script.{ReadsAll}
 use Rattle.pool_run.specs.Texts.{OneOf, max_input}
-use Rattle.pool_run.specs.Words.{Words, AskTry, AskProfile, whole_input}
+use Rattle.pool_run.specs.Words.{Words, AskTry, AskProfile, AskCreate, whole_input}
 
 -- `row P HEX`: the row of a position, two digits for each data chunk
 abbrev pub row_line : CodeRows → ℕ → List ℕ
@@ -34,13 +34,21 @@ AsksToShow words left text =
     (AskProfile words text × (text ≢ whole_input))
     ⊎ (AskProfile words whole_input × (left ≡ Some text) × (length text ≤ max_input))
 
+-- they ask for a pool to be made with it
+abbrev pub AsksToCreate : Words → Option (List ℕ) → List ℕ → Type 0
+AsksToCreate words left text =
+    (AskCreate words text × (text ≢ whole_input))
+    ⊎ (AskCreate words whole_input × (left ≡ Some text) × (length text ≤ max_input))
+
 -- they ask for it to be read
 abbrev pub AsksFor : Words → Option (List ℕ) → List ℕ → Type 0
-AsksFor words left text = AskTry words text ⊎ AsksToShow words left text
+AsksFor words left text = AskTry words text ⊎ AsksToShow words left text ⊎ AsksToCreate words left text
 
 -- a text was asked for: it is a word, or it was the whole input
 abbrev pub IsAskedFor : Words → Option (List ℕ) → Option (List ℕ) → List ℕ → Type 0
-IsAskedFor words before now text = AskTry words text ⊎ AskProfile words text ⊎ (AskProfile words whole_input × ReadsAll before now text)
+IsAskedFor words before now text =
+    AskTry words text ⊎ AskProfile words text ⊎ (AskProfile words whole_input × ReadsAll before now text)
+    ⊎ AskCreate words text ⊎ (AskCreate words whole_input × ReadsAll before now text)
 
 -- a text has a fault as a profile
 abbrev pub HasFault : List ℕ → Type 0

@@ -1,5 +1,6 @@
 -- The lines that a status says besides the replies, and the statuses. Source: this project.
-use Rattle.std.specs.Prelude.{◌≡◌, ◌==◌, if◌then◌else◌, ℕ, List, [], ◌∷◌, codes, Option}
+use Rattle.std.specs.Prelude.{◌≡◌, ◌==◌, if◌then◌else◌, ℕ, List, [], ◌∷◌, ◌++◌, codes, Option}
+use Rattle.std.specs.Fmt.{decimal}
 use Rattle.std.specs.Io.KnownBytes.{Appends}
 use Rattle.rig_disk.specs.Said.{SaysFront}
 pub use Rattle.ec_words.specs.Numbers.{OneOf}
@@ -11,6 +12,13 @@ max_input = 65536
 abbrev pub usage_line : List ℕ
 usage_line = codes "usage: ecpool try PROFILE, create DIR PROFILE, run DIR [depth=N], profile PROFILE, mill DIR SEED COUNT\n"
 
+abbrev pub exists_line : List ℕ
+exists_line = codes "pool exists\n"
+
+-- the slot that failed
+abbrev pub slot_line : ℕ → List ℕ
+slot_line slot = codes "slot " ++ (decimal slot ++ 10 ∷ [])
+
 abbrev pub too_long_line : List ℕ
 too_long_line = codes "too long\n"
 
@@ -18,6 +26,7 @@ too_long_line = codes "too long\n"
 abbrev pub line_of : ℕ → List ℕ
 line_of status =
     if status == 2 then usage_line
+    else if status == 4 then exists_line
     else if status == 12 then too_long_line
     else []
 

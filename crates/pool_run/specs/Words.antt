@@ -2,7 +2,7 @@
 use Rattle.std.specs.Prelude.{◌≡◌, ◌≢◌, List, [], ◌∷◌, ℕ, map, codes, string_bytes, String}
 use Rattle.std.specs.declared.alloc.Global.{Global}
 use Rattle.pool_run.specs.declared.program.Request.{Request}
-use Rattle.pool_run.specs.declared.program.Request.TheVariants.{Wrong, Try, Show, ShowInput}
+use Rattle.pool_run.specs.declared.program.Request.TheVariants.{Wrong, Try, Show, ShowInput, Create, CreateFromInput}
 
 -- the words as the program gets them
 abbrev pub Words : Type 0
@@ -20,13 +20,17 @@ AskTry words profile = texts_of words ≡ codes "try" ∷ profile ∷ []
 abbrev pub AskProfile : Words → List ℕ → Type 0
 AskProfile words profile = texts_of words ≡ codes "profile" ∷ profile ∷ []
 
--- the word that stands for the text of the whole input, in `profile -`
+-- `create DIR PROFILE`
+abbrev pub AskCreate : Words → List ℕ → Type 0
+AskCreate words profile = (dir : List ℕ) × (texts_of words ≡ codes "create" ∷ dir ∷ profile ∷ [])
+
+-- the word that stands for the text of the whole input, in `profile -` and in `create DIR -`
 abbrev pub whole_input : List ℕ
 whole_input = codes "-"
 
 -- the words are no command
 abbrev pub AreWrong : Words → Type 0
-AreWrong words = (profile : List ℕ) → ¬ (AskTry words profile) × ¬ (AskProfile words profile)
+AreWrong words = (profile : List ℕ) → ¬ (AskTry words profile) × ¬ (AskProfile words profile) × ¬ (AskCreate words profile)
 
 -- what the words ask for
 abbrev pub Asks : Words → Request → Type 0
@@ -34,3 +38,5 @@ Asks words Wrong = AreWrong words
 Asks words (Try profile) = AskTry words profile.now
 Asks words (Show profile) = AskProfile words profile.now × (profile.now ≢ whole_input)
 Asks words ShowInput = AskProfile words whole_input
+Asks words (Create profile) = AskCreate words profile.now × (profile.now ≢ whole_input)
+Asks words CreateFromInput = AskCreate words whole_input

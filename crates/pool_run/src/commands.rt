@@ -1,6 +1,8 @@
 //! The commands of the program, once the words are read.
 ghost use Rattle.std.specs.Prelude.{◌≡◌, ◌≢◌, ◌<◌, ◌≤◌, ◌∷◌, [], List, ℕ, Some, length};
 ghost use Rattle.std.specs.Io.KnownBytes.{Appends};
+ghost use Rattle.rig_disk.specs.Disk.{Saying};
+ghost use Rattle.rig_disk.specs.During.{During};
 ghost use Rattle.rig_disk.specs.Faults.{Rose};
 ghost use Rattle.rig_disk.specs.Said.{SaysFront};
 ghost use Rattle.ec_code.specs.Refusals.{IsAccepted, IsCodeOf};
@@ -136,8 +138,8 @@ fn show_code<R: Rig>(alloc: Global, profile: &Profile, code: &dyn Code, rig: &mu
     }
 }
 
-// Says the line of a profile's fault.
-fn refuse<R: Rig>(alloc: Global, fault: &ProfileFault, rig: &mut R) -> Status
+/// Says the line of a profile's fault.
+pub fn refuse<R: Rig>(alloc: Global, fault: &ProfileFault, rig: &mut R) -> Status
     ensures refused { (text : List ℕ) → IsRefused text fault.now → SaysFault text result.0 (R.said rig.old) (R.said rig.new) }
     ensures statuses { OneOf result.0 (3 ∷ 9 ∷ 13 ∷ []) }
     ensures counts { CountsOfRig result.0 (R.faults rig.old) (R.faults rig.new) }
@@ -153,6 +155,7 @@ pub fn say_last<R: Rig>(rig: &mut R, line: &[u8], status: u8) -> Status
     ensures status { OneOf result.0 (status ∷ 9 ∷ []) }
     ensures said { result.0 ≢ 9 → Appends (R.said rig.old) (R.said rig.new) line.now }
     ensures front { SaysFront (R.said rig.old) (R.said rig.new) line.now }
+    ensures any_moment { During R.clock R.images rig.old rig.new (Saying (R.images rig.old (R.clock rig.old)) line.now) }
     ensures voice { result.0 ≡ 9 → status ≢ 9 → Rose (R.faults rig.old VOICE) (R.faults rig.new VOICE) }
     ensures quiet { result.0 ≢ 9 → R.faults rig.new VOICE ≡ R.faults rig.old VOICE }
     ensures slots { (slot : ℕ) → slot ≢ VOICE → R.faults rig.new slot ≡ R.faults rig.old slot }

@@ -7,6 +7,7 @@
 #![tactic(auto)]
 
 mod commands;
+mod creating;
 mod limits;
 mod line;
 mod object;
