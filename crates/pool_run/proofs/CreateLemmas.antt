@@ -11,11 +11,19 @@ use Rattle.rig_disk.proofs.Moments.{at_end, goes_on}
 use Rattle.pool_moves.specs.Contents.{layout_of}
 use Rattle.pool_moves.specs.Creating.{HasNoneOrFirst}
 use Rattle.pool_moves.specs.Making.{AllAreTold, HaveNoPool}
+use Rattle.pool_making.specs.Faults.{Names}
+use Rattle.pool_making.specs.declared.fault.MakeFault.{MakeFault}
+use Rattle.pool_making.specs.declared.fault.MakeFault.TheVariants.{Exists}
 use Rattle.pool_run.specs.Texts.{OneOf}
 
 pub not_ok : {T E : Type 0} (x : T) (e f : E) → (◌≡◌ {A = Result T E} (Ok x) (Err e)) ⊎ (◌≡◌ {A = Result T E} (Ok x) (Err f)) → ⊥
 not_ok x e f (inl is) = absurd (cc)
 not_ok x e f (inr is) = absurd (cc)
+
+-- that there is a pool names no slot
+pub exists_names_none : {T : Type 0} (fault : MakeFault) → fault ≡ Exists → (slot : ℕ) → Names {T = T} (Err fault) slot → ⊥
+exists_names_none fault is slot (inl e) = cc
+exists_names_none fault is slot (inr map) = let e = map.1 in cc
 
 pub nothing_said : (before now : Option (List ℕ)) → now ≡ before → Appends before now []
 nothing_said before now same = subst (λ (s : Option (List ℕ)). Appends before s []) (sym same) (Appends-none before)

@@ -12,12 +12,13 @@ pub record CountsOfRig (status : ℕ) (before now : ℕ → ℕ) : Type 0 where
   pub slots : (slot : ℕ) → slot ≢ VOICE → now slot ≡ before slot
 
 -- of a rig on which a pool was to be made: the output's count as above; with status 0 no count rose, with status 5 that of a slot
--- below 16, and with status 10 that of the slot of the map
+-- below 16, with status 10 that of the slot of the map, and none of a slot if nothing of a pool failed
 pub record CountsOfMaking (status : ℕ) (before now : ℕ → ℕ) : Type 0 where
   pub voice : status ≡ 9 → Rose (before VOICE) (now VOICE)
   pub quiet : status ≡ 0 → (slot : ℕ) → now slot ≡ before slot
   pub slot : status ≡ 5 → (slot : ℕ) × (slot < 16) × Rose (before slot) (now slot)
   pub map : status ≡ 10 → Rose (before 16) (now 16)
+  pub others : OneOf status (3 ∷ 4 ∷ 8 ∷ 12 ∷ []) → (slot : ℕ) → slot ≢ VOICE → now slot ≡ before slot
 
 -- of an input: its count rose with status 8, and stands still with status 0 or 1
 pub record CountsOfInput (status before now : ℕ) : Type 0 where

@@ -4,7 +4,7 @@ use Rattle.rig_disk.specs.Faults.{Rose}
 use Rattle.pool_making.proofs.FaultLemmas.{all_stay, voice_stays}
 use Rattle.pool_making.specs.declared.fault.MakeFault.TheVariants.{Exists, SlotFailed, MapFailed, NoMemory}
 use Rattle.pool_run.specs.Texts.{exists_line, slot_line}
-use Rattle.pool_run.proofs.CreateLemmas.{not_ok, nothing_said, moments_then_said, none_then_said, moments_then_slot, none_then_slot}
+use Rattle.pool_run.proofs.CreateLemmas.{exists_names_none, not_ok, nothing_said, moments_then_said, none_then_said, moments_then_slot, none_then_slot}
 use Rattle.pool_run.proofs.creating.make.Goals as goal
 
 pub returns-in-Ok-clause-created : goal.returns-in-Ok-clause-created
@@ -32,6 +32,7 @@ returns-in-Ok-clause-counts g c = record {
   quiet = λ e. all_stay _ _ _ _ c.in-Ok.ensures.cause;
   slot = λ e. absurd (omega (arith, e));
   map = λ e. absurd (omega (arith, e));
+  others = λ one slot far. all_stay _ _ _ _ c.in-Ok.ensures.cause slot;
 }
 
 pub returns-in-Err-Exists-clause-created : goal.returns-in-Err-Exists-clause-created
@@ -68,6 +69,7 @@ returns-in-Err-Exists-clause-counts g c = record {
   quiet = λ e. absurd (grind (arith, e, c.say_last.ensures.status));
   slot = λ e. absurd (grind (arith, e, c.say_last.ensures.status));
   map = λ e. absurd (grind (arith, e, c.say_last.ensures.status));
+  others = λ one slot far. c.say_last.ensures.slots slot far ∙ c.in-Err-Exists.ensures.cause.others slot (exists_names_none _ c.in-Err-Exists.field-0-is slot);
 }
 
 pub returns-in-Err-SlotFailed-clause-created : goal.returns-in-Err-SlotFailed-clause-created
@@ -123,6 +125,7 @@ returns-in-Err-SlotFailed-clause-counts g c =
             (c.in-Err-SlotFailed.ensures.cause.named slot (inl (ap Err c.in-Err-SlotFailed.field-0-is))),
       );
       map = λ e. absurd (grind (arith, e, one));
+      others = λ any s far. absurd (grind (arith, any, one));
     }
 
 pub returns-in-Err-MapFailed-clause-created : goal.returns-in-Err-MapFailed-clause-created
@@ -163,4 +166,5 @@ returns-in-Err-MapFailed-clause-counts g c = record {
   quiet = λ e. absurd (omega (arith, e));
   slot = λ e. absurd (omega (arith, e));
   map = λ e. c.in-Err-MapFailed.ensures.cause.named 16 (inr (refl, ap Err c.in-Err-MapFailed.field-0-is));
+  others = λ any slot far. absurd (grind (arith, any));
 }
